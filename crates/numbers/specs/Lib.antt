@@ -1,0 +1,4 @@
+pub mod Case
+pub mod Words
+pub mod Digits
+pub mod Powers

@@ -1,0 +1,17 @@
+pub mod Moments
+pub mod Settings
+pub mod Fit
+pub mod Starts
+pub mod Voids
+pub mod Choice
+pub mod Kept
+pub mod Order
+pub mod Answer
+pub mod Codes
+pub mod Rule
+pub mod Counts
+pub mod CountLaws
+pub mod Key
+pub mod Height
+pub mod Single
+pub mod Edges

@@ -1,0 +1,10 @@
+// The rule: the tests of document 01 on plain numbers, each proved equal to its definition in specs/.
+// No tree and no lent memory here.
+pub mod answer;
+pub mod codes;
+pub mod fit;
+pub mod height;
+pub mod key;
+pub mod moments;
+pub mod starts;
+pub mod tally;
