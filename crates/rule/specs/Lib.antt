@@ -1,5 +1,6 @@
 pub mod Moments
 pub mod Settings
+pub mod SettingsLaws
 pub mod Fit
 pub mod Starts
 pub mod Voids

@@ -4,6 +4,7 @@ pub mod answer;
 pub mod codes;
 pub mod fit;
 pub mod height;
+pub mod kept;
 pub mod key;
 pub mod moments;
 pub mod starts;

@@ -102,7 +102,7 @@ turn-over : (left : Bool) (w x : ℕ) (a i b : Tree) → Balanced a → Balanced
 turn-over left w x a i b A I B h j k = elim (case-le (height i) (height a)) [
   | inl z ↦ rw (z .1) (evened left w _ b _ (once-alike left w x a i b)
       (over-even left x a _ A (over-even left w i b I B (omega arith) (omega arith))
-          (simp height-over (omega arith)) (simp height-over (omega arith)))
+      (simp height-over (omega arith)) (simp height-over (omega arith)))
       (simp height-over (omega arith))
       (simp height-over (omega arith)))
   | inr z ↦ rw (z .1) (twice-ok left w x a i b A I B (omega arith) (omega arith))

@@ -25,8 +25,11 @@ last-ok a b f (leaf p k e) o h = record { inside = (refl, refl, refl); late = h;
 last-ok a b f (node p l r) o h = elim (case-le f (top r)) [
   | inl y ↦ let R = last-ok (lo r) b f r (o .1) (y .0) in
       let from : lo r ≤ (last f r) .key = in-ord (lo r) b r (o .1) _ _ _ (R .inside) .0 in
-      rw (y .1) (record { inside = inr (R .inside); late = R .late;
-          best = (all-map (λ p k e i. omega arith) l (ord-all a (lo r) l (o .0)), R .best) })
+      rw (y .1) (record {
+        inside = inr (R .inside);
+        late = R .late;
+        best = (all-map (λ p k e i. omega arith) l (ord-all a (lo r) l (o .0)), R .best);
+      })
   | inr n ↦ let L = last-ok a (lo r) f l (o .0) (omega arith) in
       rw (n .1) (record { inside = inl (L .inside); late = L .late; best = (L .best, all-map (λ p k e i. omega arith) r (top-all r)) })
 ]
@@ -133,7 +136,7 @@ module _ (f : ℕ) where
   published-find r (node p x y) = elim (case-le (earliest y) r) [
     | inl z ↦ let Y = published-find r y in
         let J = after-is (fitting r f (reached r y)) (deepest f (passed r y)) x (length (path r y)) (length (passed r y))
-            (find r f y) (Y .0) (Y .1) in
+        (find r f y) (Y .0) (Y .1) in
         rw (z .1) (J .0, omega (arith, J .1))
     | inr z ↦ let X = published-find r x in rw (z .1) (X .0, omega arith)
   ]

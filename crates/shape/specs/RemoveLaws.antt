@@ -41,7 +41,7 @@ module _ (left : Bool) (a b p k e x : ℕ) where
       let t = over left x (leaf q j f) s in
       let one : cut k ((q, j, f) ∷ []) ≡ [] = rw (← i .1) (instead-one k (λ x. []) q f) in
       let L : leaves s ≡ cut k (leaves t) =
-          rw (leaves-over, instead-joined k (λ x. []) left ((q, j, f) ∷ []) s (d .beside), one) (sym (joined-nil left (leaves s))) in
+      rw (leaves-over, instead-joined k (λ x. []) left ((q, j, f) ∷ []) s (d .beside), one) (sym (joined-nil left (leaves s))) in
       record {
         list = L;
         weigh = λ w v. rw (d .knot, weight-over, i .0, i .1, i .2) (omega arith);
@@ -63,7 +63,7 @@ module _ (left : Bool) (a b p k e x : ℕ) where
       let B = balance-over left x u s (U .even) S (omega arith) (omega arith) in
       let z = balance x (near left u s) (far left u s) in
       let L : leaves z ≡ cut k (leaves (over left x t s)) =
-          rw (B .list, U .list, leaves-over left x t s) (sym (instead-joined k (λ x. []) left (leaves t) s (D .beside))) in
+      rw (B .list, U .list, leaves-over left x t s) (sym (instead-joined k (λ x. []) left (leaves t) s (D .beside))) in
       record {
         list = L;
         weigh = λ w v. rw (D .knot) (omega (arith, U .weigh w v, B .weigh w v, weight-over left x t s w v));

@@ -55,9 +55,10 @@ rising-right a b (x ∷ xs) ys h = rising-right (x .1 + 1) b xs ys (h .1)
 pub rising-ord : (a b : ℕ) (t : Tree) → Rising a b (leaves t) → Ord a b t
 rising-ord a b (leaf p k e) h = omega arith
 rising-ord a b (node m l r) h =
-    rw (lo-first b r)
-    (rising-ord a (first b (leaves r)) l (rising-left a b (leaves l) (leaves r) h),
-        rising-ord (first b (leaves r)) b r (rising-right a b (leaves l) (leaves r) h))
+    rw (lo-first b r) (
+      rising-ord a (first b (leaves r)) l (rising-left a b (leaves l) (leaves r) h),
+      rising-ord (first b (leaves r)) b r (rising-right a b (leaves l) (leaves r) h),
+    )
 
 -- a tree with the leaves of an ordered one is ordered
 pub ord-list : (a b : ℕ) (t u : Tree) → leaves u ≡ leaves t → Ord a b t → Ord a b u

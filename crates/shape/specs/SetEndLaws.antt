@@ -32,7 +32,7 @@ below : (left : Bool) (a b c d p k e f x : ℕ) (t s u : Tree)
     → Leads left k x t s → Ended c d p k e f t u → Ended a b p k e f (over left x t s) (over left x u s)
 below left a b c d p k e f x t s u o S h i D U =
     let L : leaves (over left x u s) ≡ renewed k f (leaves (over left x t s)) =
-        rw (leaves-over left x u s, leaves-over left x t s, U .list) (sym (instead-joined k (ending f) left (leaves t) s (D .beside))) in
+    rw (leaves-over left x u s, leaves-over left x t s, U .list) (sym (instead-joined k (ending f) left (leaves t) s (D .beside))) in
     record {
       list = L;
       first = lo-over left x t s u (U .first);

@@ -1,0 +1,6 @@
+pub mod Pure
+pub mod Frames
+pub mod Nodes
+pub mod Reps
+pub mod Once
+pub mod Same

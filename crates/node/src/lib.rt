@@ -1,0 +1,99 @@
+// A node of the tree in lent memory: five words, after a header of 26 words (docs/ARCHITECTURE.md).
+// Above this crate nobody speaks of a node's words: only of the node at a place.
+ghost use mathlib.Core.Path.{_≡_};
+ghost use Prim.Native.Nat.{_+_, _*_, _≤_, _<_, min, max};
+ghost use Rattle.node.specs.Layout.{Within, Fits, nodeAt, leafNode, overNode, Saved, Over, Mendable};
+
+pub struct Node {
+    pub height: u64,
+    pub lo: u64,
+    pub split: u64,
+    pub top: u64,
+    pub low: u64,
+    pub left: u64,
+    pub right: u64,
+}
+
+fn larger(a: u64, b: u64) -> u64
+    ensures { λ r. ⌜ r ≡ max a b ⌝ }
+{
+    if a < b { b } else { a }
+}
+
+fn smaller(a: u64, b: u64) -> u64
+    ensures { λ r. ⌜ r ≡ min a b ⌝ }
+{
+    if a < b { a } else { b }
+}
+
+// The node of a void with that key and end.
+pub fn leaf(key: u64, end: u64) -> Node
+    ensures { λ n. ⌜ n ≡ leafNode key end ⌝ }
+{
+    Node {
+        height: 0,
+        lo: key,
+        split: key,
+        top: end,
+        low: end,
+        left: 0,
+        right: 0,
+    }
+}
+
+// The node over two others, which stand at l and r.
+fn over(x: Node, y: Node, l: u64, r: u64) -> Node
+    requires { ⌜ (x .height < 4294967295) × (y .height < 4294967295) ⌝ }
+    ensures { λ n. ⌜ n ≡ overNode x y l r ⌝ }
+{
+    Node {
+        height: larger(x.height, y.height) + 1,
+        lo: x.lo,
+        split: y.lo,
+        top: larger(x.top, y.top),
+        low: smaller(x.low, y.low),
+        left: l,
+        right: r,
+    }
+}
+
+// The node at place p.
+pub fn load(mem: &[u8], p: usize) -> Node
+    requires { ⌜ Within (now mem) p ⌝ }
+    ensures { λ n. ⌜ n ≡ nodeAt (now (mem .entry)) p ⌝ }
+{
+    let b = 5 * p + 26;
+    let links = numbers::words::get(mem, b + 4);
+    Node {
+        height: links / 4294967296,
+        lo: numbers::words::get(mem, b),
+        split: numbers::words::get(mem, b + 1),
+        top: numbers::words::get(mem, b + 2),
+        low: numbers::words::get(mem, b + 3),
+        left: links / 65536 % 65536,
+        right: links % 65536,
+    }
+}
+
+// Makes n the node at place p.
+pub fn save(mem: &mut [u8], p: usize, n: Node)
+    requires { ⌜ Within (now mem) p ⌝ }
+    requires { ⌜ Fits n ⌝ }
+    ensures { λ _. ⌜ Saved p n (now (mem .entry)) (now (mem .exit)) ⌝ }
+{
+    let b = 5 * p + 26;
+    numbers::words::put(mem, b, n.lo);
+    numbers::words::put(mem, b + 1, n.split);
+    numbers::words::put(mem, b + 2, n.top);
+    numbers::words::put(mem, b + 3, n.low);
+    numbers::words::put(mem, b + 4, n.height * 4294967296 + n.left * 65536 + n.right);
+}
+
+// Writes the node p over the nodes l and r.
+pub fn mend(mem: &mut [u8], p: usize, l: usize, r: usize)
+    requires { ⌜ Mendable (now mem) p l r ⌝ }
+    ensures { λ _. ⌜ Over p l r (now (mem .entry)) (now (mem .exit)) ⌝ }
+{
+    let n = over(load(mem, l), load(mem, r), l as u64, r as u64);
+    save(mem, p, n);
+}

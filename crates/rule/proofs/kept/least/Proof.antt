@@ -1,0 +1,13 @@
+-- `rule::kept::least`: the floor itself. Assumes nothing.
+use mathlib.Core.Path.{refl}
+use native.Mathlib.Omega.{arith}
+use Rattle.rule.specs.Kept.{least}
+use Rattle.rule.proofs.kept.least.Statement.{statement}
+use Rattle.rule.proofs.kept.least.Tie as tie
+
+returns : tie.Need-returns
+unfolding least
+returns c = (refl, omega arith)
+
+pub least-spec : {M : Type 1} → statement M
+least-spec = tie.close (tie.spec returns)
