@@ -7,3 +7,10 @@ all:
 test:
 	@tests/run
 	@rt ci
+
+# the tree's operations in ns, through its archive (docs/BENCHMARKS.md)
+.PHONY: bench-tree
+bench-tree:
+	@rt staticlib tree_archive > target/bench-tree.log 2>&1 || { tail -5 target/bench-tree.log; exit 1; }
+	@rustc -O --edition 2021 -L target/staticlib -l static=tree_archive bench/tree/main.rs -o target/bench-tree
+	@target/bench-tree

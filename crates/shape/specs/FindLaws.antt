@@ -116,6 +116,10 @@ module _ (f : ℕ) where
     | inr z ↦ rw (z .1) (last-is x .0, omega (arith, last-is x .1))
   ]
 
+  -- the descent costs two visits a level at most
+  pub descended-most : (x : Tree) → length (descended f x) ≤ 2 * height x
+  descended-most x = omega (arith, last-is x .1, last-cost f x)
+
   after-is : (o : Out) (m : Deepest) (x : Tree) (a b : ℕ) (z : Result)
       → (descent f o m) .out ≡ z .out → a + b + (descent f o m) .visits ≡ z .visits
       → let d = descent f o (deeper m (leb f (top x)) x) in

@@ -18,3 +18,4 @@ pub mod Search
 pub mod FindLaws
 pub mod SearchLaws
 pub mod Walk
+pub mod Least

@@ -118,6 +118,7 @@ pub fn insert(mem: &mut [u8], t: usize, key: u64, end: u64, p: usize, q: usize) 
 }
 
 // What a removal leaves: the tree's new place, and the two places that are free again.
+#[repr(C)]
 pub struct Cut {
     pub root: usize,
     pub leaf: usize,

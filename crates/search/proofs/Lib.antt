@@ -1,0 +1,5 @@
+pub mod Look
+pub mod Descents
+pub mod Walks
+pub mod Leasts
+pub mod Finds

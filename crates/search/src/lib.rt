@@ -1,0 +1,168 @@
+// The search of voids in lent memory (01, The tree and its visits): the walk down from the root, the descent from the
+// deepest marked node, both counting their visits as they go; and the way to the void that ends first.
+ghost use mathlib.Core.Path.{_≡_};
+ghost use Prim.Native.Nat.{_≤_};
+ghost use Rattle.rule.specs.Moments.{lastMoment};
+ghost use Rattle.shape.specs.Tree.{Tree};
+ghost use Rattle.shape.specs.Visits.{published};
+ghost use Rattle.shape.specs.Least.{least};
+ghost use Rattle.node.specs.Rep.{Stands};
+ghost use Rattle.search.specs.Search.{Searchable, Standing, Descended, Walked, foundOf, itemOf};
+
+// The leaf where a descent ends, and the visits on the way to it.
+pub struct Descent {
+    pub place: usize,
+    pub visits: u64,
+}
+
+// Where the walk from the root ends: the leaf reached, the deepest marked node (0 where none is), the visits.
+struct Way {
+    leaf: usize,
+    marked: bool,
+    mark: usize,
+    visits: u64,
+}
+
+// Where the search ends: at a leaf, or at none (place, key and end are 0 then), and its visits.
+#[repr(C)]
+pub struct Found {
+    pub found: bool,
+    pub place: usize,
+    pub key: u64,
+    pub end: u64,
+    pub visits: u64,
+}
+
+// A leaf: its place, key and end.
+#[repr(C)]
+pub struct Leaf {
+    pub place: usize,
+    pub key: u64,
+    pub end: u64,
+}
+
+// From the node p down to the last leaf that ends at f or later: right if the right child has such an end, else left.
+pub fn descend(mem: &[u8], p: usize, f: u64) -> Descent
+    requires { ⌜ Searchable (now mem) p ⌝ }
+    ensures { λ d. ⌜ ((t : Tree) → Stands (now (mem .entry)) p t → Descended (now (mem .entry)) f t d) ⌝ }
+{
+    let n = node::load(mem, p);
+    if n.height == 0 {
+        return Descent {
+            place: p,
+            visits: 0,
+        };
+    }
+    let right = n.right as usize;
+    if f <= node::load(mem, right).top {
+        let d = descend(mem, right, f);
+        Descent {
+            place: d.place,
+            visits: d.visits + 1,
+        }
+    } else {
+        let d = descend(mem, n.left as usize, f);
+        Descent {
+            place: d.place,
+            visits: d.visits + 2,
+        }
+    }
+}
+
+// From the root down to a leaf: right exactly if the earliest start there is at or before r. The left child passed at
+// a right turn is marked if it has an end at f or later; the last one marked is the deepest.
+fn walk(mem: &[u8], root: usize, r: u64, f: u64) -> Way
+    requires { ⌜ Searchable (now mem) root ⌝ }
+    requires { ⌜ r ≤ lastMoment ⌝ }
+    ensures { λ w. ⌜ ((t : Tree) → Stands (now (mem .entry)) root t → Walked (now (mem .entry)) r f t w) ⌝ }
+{
+    let bound = (r + 1) * rule::key::PER_TICK;
+    let mut at = root;
+    let mut marked = false;
+    let mut mark = 0;
+    let mut visits = 0;
+    let mut n = node::load(mem, at);
+    while n.height != 0 {
+        if n.split < bound {
+            let left = node::load(mem, n.left as usize);
+            if f <= left.top {
+                marked = true;
+                mark = n.left as usize;
+            }
+            at = n.right as usize;
+            visits = visits + 2;
+        } else {
+            at = n.left as usize;
+            visits = visits + 1;
+        }
+        n = node::load(mem, at);
+    }
+    Way {
+        leaf: at,
+        marked,
+        mark,
+        visits: visits + 1,
+    }
+}
+
+// The leaf that fits r and f with the greatest key, where one fits, and the visits of 01's search for it.
+pub fn search(mem: &[u8], root: usize, r: u64, f: u64) -> Found
+    requires { ⌜ Searchable (now mem) root ⌝ }
+    requires { ⌜ r ≤ lastMoment ⌝ }
+    ensures { λ x. ⌜ ((t : Tree) → Stands (now (mem .entry)) root t → x ≡ foundOf (published r f t)) ⌝ }
+{
+    let w = walk(mem, root, r, f);
+    let n = node::load(mem, w.leaf);
+    if rule::fit::fits(rule::key::start(n.lo), n.top, r, f) {
+        return Found {
+            found: true,
+            place: w.leaf,
+            key: n.lo,
+            end: n.top,
+            visits: w.visits,
+        };
+    }
+    if w.marked {
+        let d = descend(mem, w.mark, f);
+        let b = node::load(mem, d.place);
+        return Found {
+            found: true,
+            place: d.place,
+            key: b.lo,
+            end: b.top,
+            visits: w.visits + d.visits,
+        };
+    }
+    Found {
+        found: false,
+        place: 0,
+        key: 0,
+        end: 0,
+        visits: w.visits,
+    }
+}
+
+// The leaf with the least end, of equal ends the one furthest left: down to the child that has that end.
+pub fn least(mem: &[u8], root: usize) -> Leaf
+    requires { ⌜ Standing (now mem) root ⌝ }
+    ensures { λ x. ⌜ ((t : Tree) → Stands (now (mem .entry)) root t → itemOf x ≡ least t) ⌝ }
+{
+    let mut at = root;
+    let mut n = node::load(mem, at);
+    while n.height != 0 {
+        let left = node::load(mem, n.left as usize);
+        let right = node::load(mem, n.right as usize);
+        if left.low <= right.low {
+            at = n.left as usize;
+            n = left;
+        } else {
+            at = n.right as usize;
+            n = right;
+        }
+    }
+    Leaf {
+        place: at,
+        key: n.lo,
+        end: n.top,
+    }
+}

@@ -1,0 +1,52 @@
+// The tree's functions as an archive, for the benchmark (bench/tree): each asks what the tree's own function asks.
+ghost use Prim.Native.Nat.{_≤_};
+ghost use Rattle.rule.specs.Moments.{lastMoment};
+ghost use Rattle.node.specs.Layout.{Within, nodeAt};
+ghost use Rattle.tree.specs.Changes.{Alone, Ready};
+ghost use Rattle.search.specs.Search.{Searchable, Standing};
+
+#[no_mangle]
+pub extern "C" fn tree_plant(mem: &mut [u8], p: usize, key: u64, end: u64)
+    requires { ⌜ Within (now mem) p ⌝ }
+{
+    node::save(mem, p, node::leaf(key, end));
+}
+
+#[no_mangle]
+pub extern "C" fn tree_insert(mem: &mut [u8], root: usize, key: u64, end: u64, p: usize, q: usize) -> usize
+    requires { ⌜ Ready (now mem) root p q ⌝ }
+{
+    tree::insert(mem, root, key, end, p, q)
+}
+
+#[no_mangle]
+pub extern "C" fn tree_remove(mem: &mut [u8], root: usize, key: u64) -> tree::Cut
+    requires { ⌜ 1 ≤ nodeAt (now mem) root .height ⌝ }
+    requires { ⌜ Alone (now mem) root ⌝ }
+{
+    tree::remove(mem, root, key)
+}
+
+#[no_mangle]
+pub extern "C" fn tree_set_end(mem: &mut [u8], root: usize, key: u64, end: u64)
+    requires { ⌜ Alone (now mem) root ⌝ }
+{
+    tree::set_end(mem, root, key, end);
+}
+
+#[no_mangle]
+pub extern "C" fn tree_search(mem: &[u8], root: usize, r: u64, f: u64) -> u64
+    requires { ⌜ Searchable (now mem) root ⌝ }
+    requires { ⌜ r ≤ lastMoment ⌝ }
+{
+    let x = search::search(mem, root, r, f);
+    x.visits
+}
+
+#[no_mangle]
+pub extern "C" fn tree_least(mem: &[u8], root: usize) -> u64
+    requires { ⌜ Standing (now mem) root ⌝ }
+{
+    let x = search::least(mem, root);
+    x.key
+}

@@ -1,0 +1,73 @@
+-- `tree_run::look`: the tree stays as it is. Assumes nothing.
+use native.Mathlib.Omega.{arith}
+use borrow.Author.Needs.{needs}
+use Prim.Native.Nat.{ℕ, _+_, _*_, _-_, _≤_, _<_}
+use Rattle.tree_run.proofs.Steps.{searchable}
+use Rattle.tree_run.proofs.look.Statement.{statement}
+use Rattle.tree_run.proofs.look.Tie as tie
+use Rattle.tree_run.proofs.look.Reads as reads
+use Rattle.tree_run.proofs.look.Lts as lts
+use Rattle.search.proofs.search.Reads as search-reads
+use Rattle.tree_run.proofs.mix.Reads as mix-reads
+use Rattle.tree_run.proofs.moment.Reads as moment-reads
+
+abbrev Inv-loop : tie.InvT-loop
+Inv-loop mem root digest₀ i₀ digest i = i ≤ 10000
+
+abbrev μ-loop : tie.MeasureT-loop
+μ-loop mem root digest₀ i₀ digest i = 10000 - i
+
+loop-holds : tie.Need-loop-holds Inv-loop μ-loop
+loop-holds c = omega arith
+
+mul-moment : tie.Need-mul-moment Inv-loop μ-loop
+mul-moment c = omega arith
+
+add-moment : tie.Need-add-moment Inv-loop μ-loop
+add-moment c = omega arith
+
+moment-requires : tie.Need-moment-requires Inv-loop μ-loop
+moment-requires c κs = search needs
+
+add-search : tie.Need-add-search Inv-loop μ-loop
+add-search c = omega (arith, c .moment .ensures)
+
+search-requires : tie.Need-search-requires Inv-loop μ-loop
+search-requires c κs = (searchable _ _ _ _ (omega arith) (c .before .before .before .before .pre), omega (arith, c .moment .ensures))
+
+mix-requires : tie.Need-mix-requires Inv-loop μ-loop
+mix-requires c κs = search needs
+
+mix-requires-2 : tie.Need-mix-requires-2 Inv-loop μ-loop
+mix-requires-2 c κs = search needs
+
+add-i : tie.Need-add-i Inv-loop μ-loop
+add-i c = omega arith
+
+loop-less : tie.Need-loop-less Inv-loop μ-loop
+loop-less c = omega arith
+
+loop-again : tie.Need-loop-again Inv-loop μ-loop
+loop-again c = omega arith
+
+returns : tie.Need-returns Inv-loop μ-loop
+returns c = search needs
+
+pub look-spec : {M : Type 1} → statement M
+look-spec =
+    tie.close
+    (tie.spec
+    Inv-loop
+    μ-loop
+    loop-holds
+    mul-moment
+    add-moment
+    moment-requires
+    add-search
+    search-requires
+    mix-requires
+    mix-requires-2
+    add-i
+    loop-less
+    loop-again
+    returns)

@@ -1,0 +1,74 @@
+-- `tree_run::main`: what grew is searched, exchanged and searched again. Assumes nothing.
+use native.Mathlib.Omega.{arith}
+use Rattle.tree_run.proofs.Steps.{higher}
+use borrow.Author.Needs.{needs}
+use Rattle.tree_run.proofs.main.Statement.{statement}
+use Rattle.tree_run.proofs.main.Tie as tie
+use Rattle.tree_run.proofs.main.Reads as reads
+use Rattle.tree_run.proofs.main.Lts as lts
+use Rattle.search.proofs.least.Reads as least-reads
+use Rattle.tree_run.proofs.exchange.Reads as exchange-reads
+use Rattle.tree_run.proofs.grow.Reads as grow-reads
+use Rattle.tree_run.proofs.look.Reads as look-reads
+use Rattle.tree_run.proofs.say.Reads as say-reads
+
+slice-aggregate-grow : tie.Need-slice-aggregate-grow
+slice-aggregate-grow c = search needs
+
+grow-requires : tie.Need-grow-requires
+grow-requires c κs = search needs
+
+slice-aggregate-look : tie.Need-slice-aggregate-look
+slice-aggregate-look c = search needs
+
+look-requires : tie.Need-look-requires
+look-requires c κs = higher _ _ _ _ _ _ (omega arith) (omega arith) (c .before .before .grow .ensures)
+
+say-requires : tie.Need-say-requires
+say-requires c κs = search needs
+
+slice-aggregate-exchange : tie.Need-slice-aggregate-exchange
+slice-aggregate-exchange c = search needs
+
+exchange-requires : tie.Need-exchange-requires
+exchange-requires c κs = search needs
+
+slice-aggregate-look-2 : tie.Need-slice-aggregate-look-2
+slice-aggregate-look-2 c = search needs
+
+look-requires-2 : tie.Need-look-requires-2
+look-requires-2 c κs = search needs
+
+say-requires-2 : tie.Need-say-requires-2
+say-requires-2 c κs = search needs
+
+slice-aggregate-least : tie.Need-slice-aggregate-least
+slice-aggregate-least c = search needs
+
+least-requires : tie.Need-least-requires
+least-requires c κs = search needs
+
+say-requires-3 : tie.Need-say-requires-3
+say-requires-3 c κs = search needs
+
+returns : tie.Need-returns
+returns c = search needs
+
+pub main-spec : {M : Type 1} → statement M
+main-spec =
+    tie.close
+    (tie.spec
+    slice-aggregate-grow
+    grow-requires
+    slice-aggregate-look
+    look-requires
+    say-requires
+    slice-aggregate-exchange
+    exchange-requires
+    slice-aggregate-look-2
+    look-requires-2
+    say-requires-2
+    slice-aggregate-least
+    least-requires
+    say-requires-3
+    returns)
