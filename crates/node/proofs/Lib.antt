@@ -1,4 +1,3 @@
-pub mod Pure
 pub mod Frames
 pub mod Nodes
 pub mod Reps

@@ -15,7 +15,7 @@ use Rattle.numbers.proofs.WordLaws.{word-other, word-same, byte-other, length-s
 use Rattle.shape.specs.Tree.{same}
 use Rattle.node.specs.declared.Node.{Node}
 use Rattle.node.specs.Layout.{base, Within, Fits, nodeAt, saved, linksOf, overNode, placeOf, Saved, Over}
-use Rattle.node.proofs.Pure.{same-none}
+use Rattle.shape.specs.PlaceLaws.{same-none}
 
 -- a node's fields are words
 pub record Words (n : Node) : Type 0 where

@@ -9,7 +9,7 @@ use Rattle.shape.specs.Tree.{Tree, leaf, node, place, height, lo, Ord, same, us
 use Rattle.node.specs.declared.Node.{Node}
 use Rattle.node.specs.Layout.{nodeAt}
 use Rattle.node.specs.Rep.{Rep}
-use Rattle.node.proofs.Pure.{same-is, same-most}
+use Rattle.shape.specs.PlaceLaws.{same-is, same-most}
 use Rattle.node.proofs.Reps.{rep-at}
 
 ord-lo : (a b : ℕ) (t : Tree) → Ord a b t → (a ≤ lo t) × (lo t < b)

@@ -8,7 +8,7 @@ use Rattle.shape.specs.Tree.{Tree, leaf, node, place, height, same, uses}
 use Rattle.node.specs.declared.Node.{Node}
 use Rattle.node.specs.Layout.{Within, nodeAt, leafNode, Kept, Saved, Over, Mendable}
 use Rattle.node.specs.Rep.{nodeOf, Rep, Stands, treeAt}
-use Rattle.node.proofs.Pure.{same-self, same-apart}
+use Rattle.shape.specs.PlaceLaws.{same-self, same-other}
 use Rattle.node.proofs.Frames.{node-kept, within-kept}
 
 abbrev pub heightOf : Node → ℕ
@@ -67,7 +67,7 @@ node-stands {m} {m′} {p} {l} {r} {a} {b} w s f g za zb =
     }
   where
     off : (t : Tree) → uses p t ≡ 0 → (z : ℕ) → 1 ≤ uses z t → same z p ≡ 0
-    off t h z u = same-apart z p (λ e. omega (arith, ap (λ (y : ℕ). uses y t) e))
+    off t h z u = same-other z p (λ e. omega (arith, ap (λ (y : ℕ). uses y t) e))
 
 pub mendable : {m : List ℕ} {p l r : ℕ} {a b : Tree} → Within m p → Stands m l a → Stands m r b → height a < 4294967295 → height b < 4294967295 → Mendable m p l r
 mendable w f g ha hb =

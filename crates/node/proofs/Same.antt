@@ -13,7 +13,7 @@ use Rattle.shape.specs.Tree.{Tree, leaf, node, uses}
 use Rattle.node.specs.declared.Node.{Node}
 use Rattle.node.specs.Layout.{base, nodeAt, linksOf, placeOf, Kept}
 use Rattle.node.specs.Rep.{Rep}
-use Rattle.node.proofs.Pure.{same-is}
+use Rattle.shape.specs.PlaceLaws.{same-is}
 
 abbrev pub Bytes : List ℕ → Type 0
 Bytes m = (b : ℕ) → getD m b 0 < 256

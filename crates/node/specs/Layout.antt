@@ -24,6 +24,10 @@ base p = nodeWords * p + headerWords
 abbrev pub Within : List ℕ → ℕ → Type 0
 Within m p = (40 * p + 248 ≤ length m) × (p < 65536)
 
+-- heights are written in 32 bits: no tree may be higher than this (a link's trees are lower by far)
+abbrev pub highest : ℕ
+highest = 4294967288
+
 -- the node at place p
 unfoldable pub nodeAt : List ℕ → ℕ → Node
 nodeAt m p =

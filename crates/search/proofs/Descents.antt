@@ -9,10 +9,10 @@ use borrow.Author.Tests.{le-leb, lt-leb}
 use Rattle.shape.specs.Tree.{Tree, height, top}
 use Rattle.shape.specs.FindLaws.{descended-most}
 use Rattle.node.specs.declared.Node.{Node}
-use Rattle.node.specs.Layout.{nodeAt}
+use Rattle.node.specs.Layout.{highest, nodeAt}
 use Rattle.node.specs.Rep.{Stands}
 use Rattle.search.specs.declared.Descent.{Descent}
-use Rattle.search.specs.Search.{highest, Searchable, Descended}
+use Rattle.search.specs.Search.{Searchable, Descended}
 use Rattle.search.proofs.Look.{leaf-here, inner-here, top-here}
 
 module _ (m : List ℕ) (p f : ℕ) (n : Node) (e : n ≡ nodeAt m p) where

@@ -15,12 +15,12 @@ use Rattle.shape.specs.Visits.{Out, none, some, earliest, path, passed, reached
 use Rattle.shape.specs.Walk.{mark-lower}
 use Rattle.shape.specs.SearchLaws.{search-visits}
 use Rattle.node.specs.declared.Node.{Node}
-use Rattle.node.specs.Layout.{Within, nodeAt}
+use Rattle.node.specs.Layout.{highest, Within, nodeAt}
 use Rattle.node.specs.Rep.{Rep, Stands}
 use Rattle.search.specs.declared.Descent.{Descent}
 use Rattle.search.specs.declared.Way.{Way}
 use Rattle.search.specs.declared.Found.{Found}
-use Rattle.search.specs.Search.{highest, Searchable, Descended, Marks, Walked, foundOf}
+use Rattle.search.specs.Search.{Searchable, Descended, Marks, Walked, foundOf}
 
 -- ---- the leaves that the search looks at stand in the memory
 rep-reached : (m : List ℕ) (r : ℕ) (t : Tree) → Rep m t → Rep m (reached r t)

@@ -15,9 +15,9 @@ use Rattle.shape.specs.Visits.{path, Deepest, unmarked, marked}
 use Rattle.shape.specs.Walk.{OnWay, way-root, way-right, way-left}
 use Rattle.shape.specs.SearchLaws.{search-visits}
 use Rattle.node.specs.declared.Node.{Node}
-use Rattle.node.specs.Layout.{nodeAt}
+use Rattle.node.specs.Layout.{highest, nodeAt}
 use Rattle.node.specs.Rep.{Stands}
-use Rattle.search.specs.Search.{highest, Marks, Walked}
+use Rattle.search.specs.Search.{Marks, Walked}
 use Rattle.search.proofs.Look.{Inner, leaf-here, inner-here, top-here}
 
 -- on the way down t, at the place at, with the mark b p and after v visits

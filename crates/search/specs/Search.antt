@@ -8,7 +8,7 @@ use lib.ListN.{length}
 use Rattle.numbers.specs.Case.{pick}
 use Rattle.shape.specs.Tree.{Tree, leaf, height, Item}
 use Rattle.shape.specs.Visits.{Out, none, some, Result, path, passed, reached, Deepest, unmarked, marked, deepest, descended, bottom}
-use Rattle.node.specs.Layout.{nodeAt}
+use Rattle.node.specs.Layout.{highest, nodeAt}
 use Rattle.node.specs.Rep.{Stands}
 use Rattle.search.specs.declared.Descent.{Descent}
 use Rattle.search.specs.declared.Way.{Way}
@@ -18,10 +18,6 @@ use Rattle.search.specs.declared.Leaf.{Leaf}
 -- some tree stands at p
 abbrev pub Standing : List ℕ → ℕ → Type 0
 Standing m p = (t : Tree) × Stands m p t
-
--- the visits of a search in a tree of this height fit 64 bits by far; a link's trees are nowhere near it
-abbrev pub highest : ℕ
-highest = 4294967288
 
 -- some tree stands at p, and is not higher
 abbrev pub Searchable : List ℕ → ℕ → Type 0

@@ -32,19 +32,16 @@ insert k e p q (leaf x j f) = pick (leb j k) (node q (leaf x j f) (leaf p k e)) 
 insert k e p q (node x l r) = pick (leb (lo r) k) (balance x l (insert k e p q r)) (balance x (insert k e p q l) r)
 
 -- ---- remove: the leaf that the key leads to goes, with the node above it
--- a node x over a child that a removal changes and one that stays: a child that is a leaf goes, and x with it
-unfoldable pub lessLeft : (x : ℕ) → (was now stays : Tree) → Tree
-lessLeft x (leaf p k e) now r = r
-lessLeft x (node p a b) now r = balance x now r
-
-unfoldable pub lessRight : (x : ℕ) → (was now stays : Tree) → Tree
-lessRight x (leaf p k e) now l = l
-lessRight x (node p a b) now l = balance x l now
+-- a node x over a child, on the side named, that a removal changes, and one that stays: a child that is a leaf goes, and
+-- x with it
+unfoldable pub less : Bool → (x : ℕ) → (was now stays : Tree) → Tree
+less left x (leaf p k e) now y = y
+less left x (node p a b) now y = balance x (near left now y) (far left now y)
 
 -- (a tree of one leaf is left as it is: a link always keeps a void)
 unfoldable pub remove : (k : ℕ) → Tree → Tree
 remove k (leaf p j e) = leaf p j e
-remove k (node x l r) = pick (leb (lo r) k) (lessRight x r (remove k r) l) (lessLeft x l (remove k l) r)
+remove k (node x l r) = pick (leb (lo r) k) (less false x r (remove k r) l) (less true x l (remove k l) r)
 
 -- the place of the leaf that the key leads to
 unfoldable pub leafOf : (k : ℕ) → Tree → ℕ

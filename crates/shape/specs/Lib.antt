@@ -7,6 +7,8 @@ pub mod PlaceLaws
 pub mod Rising
 pub mod HeightLaws
 pub mod SideLaws
+pub mod TurnLaws
+pub mod ChangeLaws
 pub mod BalanceLaws
 pub mod ListLaws
 pub mod LeadLaws

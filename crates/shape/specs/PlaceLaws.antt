@@ -22,6 +22,9 @@ same-is x y h = elim (case-eq x y) [ inl z ↦ z .0 | inr z ↦ absurd (omega (a
 pub same-most : (x y : ℕ) → same x y ≤ 1
 same-most x y = elim (case-eq x y) [ inl z ↦ rw (z .0) (omega (arith, same-self y)) | inr z ↦ omega (arith, same-other x y (z .0)) ]
 
+pub same-none : (x y : ℕ) → same x y ≡ 0 → x ≢ y
+same-none x y h e = let g : same y y ≡ 0 = rw e at h in omega (arith, same-self y)
+
 -- ---- a leaf's weight in the whole
 pub weight-in : (w : (p k e : ℕ) → ℕ) (v : ℕ → ℕ) (t : Tree) (p k e : ℕ) → In p k e t → w p k e ≤ weight w v t
 weight-in w v (leaf p k e) p′ k′ e′ i = rw (i .0, i .1, i .2) (omega arith)

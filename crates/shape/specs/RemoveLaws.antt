@@ -12,7 +12,7 @@ use Rattle.shape.specs.TreeLaws.{all-others, in-right, in-left, size-som
 use Rattle.shape.specs.PlaceLaws.{size-weight}
 use Rattle.shape.specs.Side.{over, near, far}
 use Rattle.shape.specs.SideLaws.{joined-nil, leaves-over, height-over, weight-over, all-over}
-use Rattle.shape.specs.Arrange.{balance, lessLeft, lessRight, remove, leafOf, orAbove, above}
+use Rattle.shape.specs.Arrange.{balance, less, remove, leafOf, orAbove, above}
 use Rattle.shape.specs.BalanceLaws.{balance-over}
 use Rattle.shape.specs.ListLaws.{cut, instead-joined, instead-one, ord-instead}
 use Rattle.shape.specs.LeadLaws.{Leads, leads-right, leads-left}
@@ -75,28 +75,21 @@ module _ (left : Bool) (a b p k e x : ℕ) where
         high = omega (arith, height-over left x t s);
       }
 
-removed-right : (a b p k e x : ℕ) (l r u : Tree) → Ord a b (node x l r) → Balanced (node x l r) → Leads false k x r l → In p k e r
-    → (2 ≤ size r → Removed (lo r) b p k e r u) → Removed a b p k e (node x l r) (lessRight x r u l)
-unfolding lessRight
-removed-right a b p k e x l (leaf q j f) u o h d i R = leaf-gone false a b p k e x q j f l o (h .0) (omega arith) d i
-removed-right a b p k e x l (node y g m) u o h d i R =
-    below false a b p k e x (lo g) b y g m l u o (h .0) (h .3) (h .2) d (R (omega (arith, size-some g, size-some m)))
-
-removed-left : (a b p k e x : ℕ) (l r u : Tree) → Ord a b (node x l r) → Balanced (node x l r) → Leads true k x l r → In p k e l
-    → (2 ≤ size l → Removed a (lo r) p k e l u) → Removed a b p k e (node x l r) (lessLeft x l u r)
-unfolding lessLeft
-removed-left a b p k e x (leaf q j f) r u o h d i L = leaf-gone true a b p k e x q j f r o (h .1) (omega arith) d i
-removed-left a b p k e x (node y g m) r u o h d i L =
-    below true a b p k e x a (lo r) y g m r u o (h .1) (h .2) (h .3) d (L (omega (arith, size-some g, size-some m)))
+removed-side : (left : Bool) (a b c d p k e x : ℕ) (t s u : Tree) → Ord a b (over left x t s) → Balanced s → height t ≤ height s + 1 → height s ≤ height t + 1
+    → Leads left k x t s → In p k e t → (2 ≤ size t → Removed c d p k e t u) → Removed a b p k e (over left x t s) (less left x t u s)
+unfolding less
+removed-side left a b c d p k e x (leaf q j f) s u o S m n D i R = leaf-gone left a b p k e x q j f s o S (omega arith) D i
+removed-side left a b c d p k e x (node y g h) s u o S m n D i R =
+    below left a b p k e x c d y g h s u o S m n D (R (omega (arith, size-some g, size-some h)))
 
 pub remove-ok : (a b p k e : ℕ) (t : Tree) → Ord a b t → Balanced t → In p k e t → 2 ≤ size t → Removed a b p k e t (remove k t)
 unfolding remove
 remove-ok a b p k e (leaf q j f) o h i n = absurd (omega arith)
 remove-ok a b p k e (node x l r) o h i n = elim (case-le (lo r) k) [
   | inl y ↦ let j = in-right a b p k e x l r o (y .0) i in
-      rw (y .1) (removed-right a b p k e x l r (remove k r) o h (leads-right a b k x l r o y) j (remove-ok (lo r) b p k e r (o .1) (h .1) j))
+      rw (y .1) (removed-side false a b (lo r) b p k e x r l (remove k r) o (h .0) (h .3) (h .2) (leads-right a b k x l r o y) j (remove-ok (lo r) b p k e r (o .1) (h .1) j))
   | inr y ↦ let j = in-left a b p k e x l r o (y .0) i in
-      rw (y .1) (removed-left a b p k e x l r (remove k l) o h (leads-left a b k x l r o y) j (remove-ok a (lo r) p k e l (o .0) (h .0) j))
+      rw (y .1) (removed-side true a b a (lo r) p k e x l r (remove k l) o (h .1) (h .2) (h .3) (leads-left a b k x l r o y) j (remove-ok a (lo r) p k e l (o .0) (h .0) j))
 ]
 
 -- one leaf less

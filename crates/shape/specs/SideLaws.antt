@@ -5,8 +5,8 @@ use mathlib.Core.List.{List, [], _++_, append-assoc, append-nil}
 use mathlib.Core.Bool.{Bool, true, false, not}
 use Prim.Native.Nat.{ℕ, _+_, _≤_, min, max}
 use native.Mathlib.Omega.{arith}
-use Rattle.shape.specs.Tree.{Tree, place, height, size, lo, top, low, Balanced, All, Item, leaves, weight}
-use Rattle.shape.specs.Side.{over}
+use Rattle.shape.specs.Tree.{Tree, node, place, height, size, lo, top, low, Balanced, All, Item, leaves, weight}
+use Rattle.shape.specs.Side.{over, near, far}
 
 -- two lists, the first of which is on the side named
 abbrev pub joined : Bool → (near far : List Item) → List Item
@@ -64,3 +64,18 @@ module _ (left : Bool) (p : ℕ) (x y : Tree) where
 
   pub over-even : Balanced x → Balanced y → height x ≤ height y + 1 → height y ≤ height x + 1 → Balanced (over left p x y)
   over-even h i u v = elim left [ true ↦ (h, i, u, v) | false ↦ (i, h, v, u) ]
+
+-- ---- the two children of a node, the one on the side named first
+module _ (u : (p k e : ℕ) → ℕ) (v : ℕ → ℕ) where
+  pub weight-sides : (s : Bool) (l r : Tree) → weight u v (near s l r) + weight u v (far s l r) ≡ weight u v l + weight u v r
+  weight-sides true l r = refl
+  weight-sides false l r = omega arith
+
+pub height-sides : (s : Bool) (l r : Tree) → max (height (near s l r)) (height (far s l r)) ≡ max (height l) (height r)
+height-sides true l r = refl
+height-sides false l r = omega arith
+
+-- every node is over its two children, either way round
+pub over-sides : (s : Bool) (p : ℕ) (l r : Tree) → node p l r ≡ over s p (near s l r) (far s l r)
+over-sides true p l r = refl
+over-sides false p l r = refl

@@ -10,7 +10,9 @@ use Rattle.shape.specs.Side.{near, far}
 use Rattle.shape.specs.Arrange.{balance, remove, above}
 use Rattle.node.specs.declared.Node.{Node}
 use Rattle.node.specs.Layout.{nodeAt}
-use Rattle.node.proofs.Pure.{inners-uses, remove-side, leaf-side, above-side, less-leaf, less-node, leaf-of-leaf, above-leaf, above-node, weight-balance-on, weight-remove, height-remove}
+use Rattle.shape.specs.TurnLaws.{weight-balance-on}
+use Rattle.shape.specs.ChangeLaws.{remove-side, leaf-side, above-side, less-leaf, less-node, leaf-of-leaf, above-leaf, above-node, weight-remove, height-remove}
+use Rattle.shape.specs.PlaceLaws.{inners-uses}
 use Rattle.node.proofs.Frames.{kept-none, kept-then, within-kept}
 use Rattle.node.proofs.Reps.{within, stands-frame}
 use Rattle.tree.specs.declared.Cut.{Cut}

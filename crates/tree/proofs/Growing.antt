@@ -10,7 +10,8 @@ use Rattle.shape.specs.Side.{near, far}
 use Rattle.shape.specs.Arrange.{insert}
 use Rattle.node.specs.declared.Node.{Node}
 use Rattle.node.specs.Layout.{Within, nodeAt, leafNode, Saved, Mendable}
-use Rattle.node.proofs.Pure.{inners-uses, insert-leaf, insert-side, weight-insert, height-insert}
+use Rattle.shape.specs.ChangeLaws.{insert-leaf, insert-side, weight-insert, height-insert}
+use Rattle.shape.specs.PlaceLaws.{inners-uses}
 use Rattle.node.proofs.Frames.{kept-then, within-kept}
 use Rattle.node.proofs.Reps.{tall, within, stands-frame, leaf-stands}
 use Rattle.tree.specs.Turns.{OverOn, Two, Both, BalancesOn}

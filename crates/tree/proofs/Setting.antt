@@ -10,7 +10,7 @@ use Rattle.shape.specs.Side.{near, far}
 use Rattle.shape.specs.Arrange.{setEnd, leafOf}
 use Rattle.node.specs.declared.Node.{Node}
 use Rattle.node.specs.Layout.{Within, nodeAt, leafNode, Saved, Mendable}
-use Rattle.node.proofs.Pure.{leaf-uses, set-side, leaf-side, weight-set, height-set}
+use Rattle.shape.specs.ChangeLaws.{leaf-uses, set-side, leaf-side, weight-set, height-set}
 use Rattle.node.proofs.Frames.{kept-then, kept-less, within-kept}
 use Rattle.node.proofs.Reps.{tall, within, stands-frame, leaf-stands}
 use Rattle.tree.specs.Turns.{OverOn, Two}

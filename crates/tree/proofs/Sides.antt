@@ -10,16 +10,17 @@ use Rattle.shape.specs.Side.{over, near, far}
 use Rattle.node.specs.declared.Node.{Node}
 use Rattle.node.specs.Layout.{Within, Fits, nodeAt, leafNode, Saved, Mendable}
 use Rattle.node.specs.Rep.{nodeOf, Rep, Stands}
-use Rattle.node.proofs.Pure.{same-self, weight-over, weight-sides, height-sides}
+use Rattle.shape.specs.SideLaws.{weight-over, weight-sides, height-sides}
+use Rattle.shape.specs.PlaceLaws.{same-self}
 use Rattle.node.proofs.Reps.{seen, within, node-stands, mendable}
 use Rattle.tree.specs.Turns.{OverOn, Two, Both}
 
 -- ---- counting over a side
 pub uses-over : (z : ℕ) (s : Bool) (p : ℕ) (a b : Tree) → uses z (over s p a b) ≡ same z p + uses z a + uses z b
-uses-over z = weight-over (λ p k e. same z p) (same z)
+uses-over z s p a b = weight-over s p a b (λ p k e. same z p) (same z)
 
 pub inners-over : (z : ℕ) (s : Bool) (p : ℕ) (a b : Tree) → inners z (over s p a b) ≡ same z p + inners z a + inners z b
-inners-over z = weight-over (λ p k e. 0) (same z)
+inners-over z s p a b = weight-over s p a b (λ p k e. 0) (same z)
 
 pub uses-sides : (z : ℕ) (s : Bool) (l r : Tree) → uses z (near s l r) + uses z (far s l r) ≡ uses z l + uses z r
 uses-sides z = weight-sides (λ p k e. same z p) (same z)

@@ -6,7 +6,8 @@ use Prim.Native.Nat.{ℕ}
 use native.Mathlib.Omega.{arith}
 use Rattle.shape.specs.Tree.{node}
 use Rattle.shape.specs.Arrange.{balance, insert, remove, setEnd}
-use Rattle.node.proofs.Pure.{inners-uses, leaf-uses}
+use Rattle.shape.specs.ChangeLaws.{leaf-uses}
+use Rattle.shape.specs.PlaceLaws.{inners-uses}
 use Rattle.node.proofs.Same.{Bytes, determined}
 use Rattle.tree.specs.declared.Cut.{Cut}
 use Rattle.tree.specs.Turns.{Both, Balances}

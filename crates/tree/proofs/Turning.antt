@@ -10,12 +10,13 @@ use Rattle.shape.specs.Tree.{Tree, leaf, node, height, same, uses, inners}
 use Rattle.shape.specs.Side.{over, near, far}
 use Rattle.shape.specs.Arrange.{turn}
 use Rattle.node.specs.declared.Node.{Node}
-use Rattle.node.specs.Layout.{Within, nodeAt, Kept, Mendable}
+use Rattle.node.specs.Layout.{highest, Within, nodeAt, Kept, Mendable}
 use Rattle.node.specs.Rep.{Stands}
-use Rattle.node.proofs.Pure.{height-over, over-sides, twice-over, turn-over, weight-turn, height-turn}
+use Rattle.shape.specs.TurnLaws.{twice-over, turn-over, weight-turn, height-turn}
+use Rattle.shape.specs.SideLaws.{height-over, over-sides}
 use Rattle.node.proofs.Frames.{kept-then, kept-less, within-kept}
 use Rattle.node.proofs.Reps.{tall, within, stands-frame}
-use Rattle.tree.specs.Turns.{highest, OverOn, Two, Both, Arranged, Turns}
+use Rattle.tree.specs.Turns.{OverOn, Two, Both, Arranged, Turns}
 use Rattle.tree.proofs.Sides.{uses-over, inners-over, two-mendable, two-over, children, reads-height}
 
 -- the high tree, h over a and c, is taken apart

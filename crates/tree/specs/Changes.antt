@@ -5,10 +5,9 @@ use mathlib.Core.List.{List}
 use Prim.Native.Nat.{ℕ, _+_, _≤_, _<_}
 use Rattle.shape.specs.Tree.{Tree, height, same, uses, inners, Once}
 use Rattle.shape.specs.Arrange.{insert, remove, leafOf, above, setEnd}
-use Rattle.node.specs.Layout.{Within, Kept}
+use Rattle.node.specs.Layout.{highest, Within, Kept}
 use Rattle.node.specs.Rep.{Stands}
 use Rattle.tree.specs.declared.Cut.{Cut}
-use Rattle.tree.specs.Turns.{highest}
 
 -- ---- what is asked
 -- the tree stands at t, each place once

@@ -7,12 +7,8 @@ use Prim.Native.Nat.{ℕ, _≤_}
 use Rattle.shape.specs.Tree.{Tree, node, height, uses, inners, Once}
 use Rattle.shape.specs.Side.{near, far}
 use Rattle.shape.specs.Arrange.{turn, balance}
-use Rattle.node.specs.Layout.{Within, Kept, Over}
+use Rattle.node.specs.Layout.{highest, Within, Kept, Over}
 use Rattle.node.specs.Rep.{Stands}
-
--- heights are written in 32 bits: none may pass this (a tree of a link has a height below its room)
-abbrev pub highest : ℕ
-highest = 4294967288
 
 -- m′ is m with p over the nodes at x, on the side named, and y
 abbrev pub OverOn : Bool → (p x y : ℕ) → (m m′ : List ℕ) → Type 0

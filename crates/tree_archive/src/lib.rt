@@ -13,7 +13,14 @@ pub extern "C" fn tree_plant(mem: &mut [u8], p: usize, key: u64, end: u64)
 }
 
 #[no_mangle]
-pub extern "C" fn tree_insert(mem: &mut [u8], root: usize, key: u64, end: u64, p: usize, q: usize) -> usize
+pub extern "C" fn tree_insert(
+    mem: &mut [u8],
+    root: usize,
+    key: u64,
+    end: u64,
+    p: usize,
+    q: usize,
+) -> usize
     requires { ⌜ Ready (now mem) root p q ⌝ }
 {
     tree::insert(mem, root, key, end, p, q)

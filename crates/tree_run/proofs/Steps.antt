@@ -13,7 +13,7 @@ use Rattle.node.specs.Layout.{Within, nodeAt, leafNode, Saved}
 use Rattle.node.specs.Rep.{Rep, Stands}
 use Rattle.node.proofs.Frames.{within-kept}
 use Rattle.node.proofs.Reps.{leaf-stands, tall}
-use Rattle.node.proofs.Pure.{fresh-once}
+use Rattle.shape.specs.ChangeLaws.{fresh-once}
 use Rattle.tree.specs.declared.Cut.{Cut}
 use Rattle.tree.specs.Changes.{Alone, Sole, Ready, Fresh, Inserts, Removes, Sets}
 use Rattle.search.specs.Search.{Searchable, Standing}

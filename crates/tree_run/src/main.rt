@@ -6,6 +6,7 @@ ghost use lib.ListN.{length};
 ghost use Rattle.tree_run.specs.Grown.{Has};
 
 const VOIDS: usize = 2000;
+
 const ROUNDS: u64 = 10000;
 
 // Two numbers made one, below 2^32.

@@ -53,13 +53,13 @@ loop-less c = omega arith
 
 loop-again : tie.Need-loop-again Inv-loop μ-loop
 loop-again c = (
-      omega arith,
-      omega arith,
-      c .before .before .insert .kept .0 ∙ c .before .before .before .before .before .before .before .loop .inv .2,
-      let u : 2 * (c .before .before .before .before .before .before .before .loop .i + 1) - 1 ≡ 2 * c .before .before .before .before .before .before .before .loop .i - 1 + 2 = omega arith in
+  omega arith,
+  omega arith,
+  c .before .before .insert .kept .0 ∙ c .before .before .before .before .before .before .before .loop .inv .2,
+  let u : 2 * (c .before .before .before .before .before .before .before .loop .i + 1) - 1 ≡ 2 * c .before .before .before .before .before .before .before .loop .i - 1 + 2 = omega arith in
       let v : c .before .before .before .before .before .before .before .loop .i + 1 - 1 ≡ c .before .before .before .before .before .before .before .loop .i - 1 + 1 = omega arith in
       rw (u, v) (grown _ _ _ _ _ _ _ _ (c .before .before .before .before .before .before .before .loop .i - 1) (omega arith) (omega arith) (omega arith) (omega (arith, c .before .before .before .before .before .before .before .loop .inv .2, c .before .before .before .before .before .before .before .before .before .before .plant .kept .0, c .before .before .before .before .before .before .before .before .before .before .before .before .before .pre)) (c .before .before .before .before .before .before .before .loop .inv .3) (c .before .before .insert .ensures)),
-    )
+)
 
 same-length : tie.Need-same-length Inv-loop μ-loop
 same-length c = c .before .loop .inv .2 ∙ c .before .before .before .before .plant .kept .0
