@@ -1,0 +1,6 @@
+pub mod Parts
+pub mod Sizes
+pub mod Shortening
+pub mod Adding
+pub mod Dropping
+pub mod Same

@@ -1,0 +1,55 @@
+-- The steps that leave every place where it is: another end, another floor. And what any step finds in a link.
+use mathlib.Core.Path.{_≡_, sym, _∙_}
+use mathlib.Core.List.{List}
+use Prim.Native.Nat.{ℕ, _^_, _≤_, _<_}
+use native.Mathlib.Omega.{arith}
+use Rattle.numbers.specs.Words.{word, store}
+use Rattle.shape.specs.Tree.{place, size}
+use Rattle.shape.specs.TreeLaws.{height-size}
+use Rattle.shape.specs.ChangeLaws.{leaf-uses}
+use Rattle.tree.specs.Changes.{Sole, Alone, Sets}
+use Rattle.state.specs.State.{State, places, shorten, with-floor}
+use Rattle.memory.specs.Holds.{After}
+use Rattle.memory.specs.Steps.{Link}
+use Rattle.memory.proofs.Parts.{below-most, part-put, part-tree, opened, closed}
+use Rattle.memory.proofs.Sizes.{size-set}
+
+module _ (m : List ℕ) (s : State) (L : Link m s) where
+  -- no link has more voids than this
+  pub few : size (s .tree) ≤ 32768
+  few = omega (arith, L .placed .many, L .holds .small)
+
+  -- the words of the room, of the root and of the voids kept
+  pub room-is : word m 0 ≡ s .settings .room
+  room-is = L .holds .heads 0 (omega arith)
+
+  pub root-is : word m 5 ≡ place (s .tree)
+  root-is = L .holds .heads 5 (omega arith)
+
+  pub kept-is : word m 6 ≡ size (s .tree)
+  kept-is = L .holds .heads 6 (omega arith)
+
+  module _ (t : ℕ) (et : t ≡ word m 5) where
+    pub sole : Sole m t (s .tree)
+    sole =
+        record {
+          stands = record { rep = L .holds .rep; at = sym (et ∙ root-is) };
+          once = λ z. omega (arith, L .placed .all z, below-most z (places (s .settings .room)));
+          low = omega (arith, height-size (s .tree), few);
+        }
+
+    pub alone : Alone m t
+    alone = (s .tree, sole)
+
+    pub shortened : (m′ : List ℕ) (k e : ℕ) → Sets t k e m m′ → After m m′ (shorten s k e)
+    unfolding shorten
+    shortened m′ k e f =
+        let u = f (s .tree) sole in
+        let n = places (s .settings .room) in
+        let P = part-tree m m n _ (s .tree) (s .spares) (opened m s L) _ m′ _ (u .kept) (u .stands .rep)
+        (λ z. omega (arith, L .placed .all z, leaf-uses z k (s .tree))) (λ z. omega (arith, L .placed .all z, u .many z)) in
+        closed m m′ (shorten s k e) (L .holds .lines) (rw (u .stands .at ∙ et ∙ root-is, size-set k e (s .tree)) P)
+
+  pub refloored : (m′ : List ℕ) (moment : ℕ) → moment < 2 ^ 64 → m′ ≡ store m 4 moment → After m m′ (with-floor s moment)
+  refloored m′ moment l e =
+      closed m m′ (with-floor s moment) (L .holds .lines) (rw e (part-put m m _ _ (s .tree) (s .spares) (opened m s L) 4 moment (omega arith) l))

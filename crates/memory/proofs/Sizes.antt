@@ -1,0 +1,22 @@
+-- How many voids a step leaves.
+use mathlib.Core.Path.{_≡_}
+use Prim.Native.Nat.{ℕ, _+_, _≤_}
+use native.Mathlib.Omega.{arith}
+use Rattle.shape.specs.Tree.{Tree, leaf, node, height, size}
+use Rattle.shape.specs.PlaceLaws.{size-weight}
+use Rattle.shape.specs.Arrange.{insert, remove, setEnd}
+use Rattle.shape.specs.ChangeLaws.{weight-insert, weight-remove, weight-set}
+
+pub size-insert : (k e p q : ℕ) (t : Tree) → size (insert k e p q t) ≡ size t + 1
+size-insert k e p q t = omega (arith, size-weight t, size-weight (insert k e p q t), weight-insert (λ p k e. 1) (λ q. 0) k e p q t)
+
+pub size-set : (k f : ℕ) (t : Tree) → size (setEnd k f t) ≡ size t
+size-set k f t = omega (arith, size-weight t, size-weight (setEnd k f t), weight-set (λ p. 1) (λ q. 0) k f t)
+
+-- two leaves have a node above them
+pub tall-node : (t : Tree) → 2 ≤ size t → 1 ≤ height t
+tall-node (leaf p k e) h = absurd (omega arith)
+tall-node (node p l r) h = omega arith
+
+pub size-remove : (k : ℕ) (t : Tree) → 2 ≤ size t → size (remove k t) + 1 ≡ size t
+size-remove k t h = omega (arith, size-weight t, size-weight (remove k t), weight-remove (λ p. 1) (λ q. 0) k t (tall-node t h))

@@ -1,0 +1,4 @@
+pub mod Header
+pub mod Holds
+pub mod Part
+pub mod Steps

@@ -1,0 +1,112 @@
+// A link's state in lent memory: header, tree, spare places; the three steps that change it.
+// Above this crate nobody speaks of places.
+ghost use mathlib.Core.Path.{_≡_};
+ghost use Prim.Native.Nat.{_<_};
+ghost use Rattle.numbers.specs.Words.{word, store};
+ghost use Rattle.node.specs.Layout.{Within, nodeAt, Saved};
+ghost use Rattle.memory.specs.Holds.{spareNode};
+ghost use Rattle.memory.specs.Steps.{Some, Roomy, Several, Shortens, Adds, Drops, Refloors};
+use numbers::words::get;
+use numbers::words::put;
+
+// The words of the header (specs/Header.antt).
+pub const ROOM: usize = 0;
+
+pub const CHANNELS: usize = 1;
+
+pub const LINES: usize = 2;
+
+pub const LEAP: usize = 3;
+
+pub const FLOOR: usize = 4;
+
+pub const ROOT: usize = 5;
+
+pub const KEPT: usize = 6;
+
+pub const SPARE: usize = 7;
+
+pub const DELAYS: usize = 8;
+
+// The height that marks a spare node.
+pub const SPARE_MARK: u64 = 2147483648;
+
+// Takes the first spare place off the list.
+fn take_spare(mem: &mut [u8]) -> usize
+    requires { ⌜ Within (now mem) (word (now mem) 7) ⌝ }
+    ensures { λ p. ⌜ (p ≡ word (now (mem .entry)) 7) × (now (mem .exit) ≡ store (now (mem .entry)) 7 (nodeAt (now (mem .entry)) p .right)) ⌝ }
+{
+    let p = get(mem, SPARE) as usize;
+    let n = node::load(mem, p);
+    put(mem, SPARE, n.right);
+    p
+}
+
+// Puts a place in front of the k spare ones.
+pub fn give_spare(mem: &mut [u8], p: usize, k: u64)
+    requires { ⌜ (Within (now mem) p) × (k < 65536) × (word (now mem) 7 < 65536) ⌝ }
+    ensures { λ _. ⌜ Saved p (spareNode k (word (now (mem .entry)) 7)) (store (now (mem .entry)) 7 p) (now (mem .exit)) ⌝ }
+{
+    let next = get(mem, SPARE);
+    put(mem, SPARE, p as u64);
+    let n = node::Node {
+        height: SPARE_MARK,
+        lo: 0,
+        split: 0,
+        top: 0,
+        low: 0,
+        left: k,
+        right: next,
+    };
+    node::save(mem, p, n);
+}
+
+// Another end for the void of the key.
+pub fn shorten(mem: &mut [u8], key: u64, end: u64)
+    requires { ⌜ Some (now mem) ⌝ }
+    ensures { λ _. ⌜ Shortens key end (now (mem .entry)) (now (mem .exit)) ⌝ }
+{
+    let root = get(mem, ROOT) as usize;
+    tree::set_end(mem, root, key, end);
+}
+
+// One void more.
+pub fn add(mem: &mut [u8], key: u64, end: u64)
+    requires { ⌜ Roomy (now mem) ⌝ }
+    ensures { λ _. ⌜ Adds key end (now (mem .entry)) (now (mem .exit)) ⌝ }
+{
+    let p = take_spare(mem);
+    let q = take_spare(mem);
+    let root = get(mem, ROOT) as usize;
+    let top = tree::insert(mem, root, key, end, p, q);
+    put(mem, ROOT, top as u64);
+    let kept = get(mem, KEPT);
+    put(mem, KEPT, kept + 1);
+}
+
+// One void less: the one of the key.
+pub fn drop(mem: &mut [u8], key: u64)
+    requires { ⌜ Several (now mem) ⌝ }
+    ensures { λ _. ⌜ Drops key (now (mem .entry)) (now (mem .exit)) ⌝ }
+{
+    let root = get(mem, ROOT) as usize;
+    let kept = get(mem, KEPT);
+    let room = get(mem, ROOM);
+    let spare = 2 * (room + 1 - kept);
+    let cut = tree::remove(mem, root, key);
+    let leaf = cut.leaf;
+    let above = cut.node;
+    let new_root = cut.root;
+    give_spare(mem, above, spare);
+    give_spare(mem, leaf, spare + 1);
+    put(mem, ROOT, new_root as u64);
+    put(mem, KEPT, kept - 1);
+}
+
+// Another floor.
+pub fn refloor(mem: &mut [u8], moment: u64)
+    requires { ⌜ Some (now mem) ⌝ }
+    ensures { λ _. ⌜ Refloors moment (now (mem .entry)) (now (mem .exit)) ⌝ }
+{
+    put(mem, FLOOR, moment);
+}

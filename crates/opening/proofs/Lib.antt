@@ -1,0 +1,5 @@
+pub mod Bounding
+pub mod Beginning
+pub mod Widening
+pub mod Answering
+pub mod Same

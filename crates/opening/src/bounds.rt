@@ -1,0 +1,56 @@
+// The table of bounds as one test (01, Bounds; rule's specs/Settings.antt).
+ghost use mathlib.Core.Path.{_≡_};
+ghost use Rattle.rule.specs.Settings.{between, rising, inBounds};
+ghost use Rattle.opening.specs.Opening.{settings};
+
+pub const MOST_CHANNELS: u64 = 64;
+
+pub const MOST_LINES: u64 = 16;
+
+pub const MOST_ROOM: u64 = 4096;
+
+pub const LONGEST: u64 = 4294967295;
+
+fn between(low: u64, high: u64, x: u64) -> bool
+    ensures { λ b. ⌜ b ≡ between low high x ⌝ }
+{
+    if low <= x { x <= high } else { false }
+}
+
+// Whether the delays rise from 1 on, and none is too long.
+fn rising(delays: &[u64]) -> bool
+    ensures { λ b. ⌜ b ≡ rising 0 (now (delays .entry)) ⌝ }
+{
+    let mut last: u64 = 0;
+    let mut i = 0;
+    while i < delays.len() {
+        let delay = delays[i];
+        if delay <= last {
+            return false;
+        }
+        if LONGEST < delay {
+            return false;
+        }
+        last = delay;
+        i += 1;
+    }
+    true
+}
+
+pub fn in_bounds(room: u64, channels: u64, leap: u64, delays: &[u64]) -> bool
+    ensures { λ b. ⌜ b ≡ inBounds (settings room channels leap (now (delays .entry))) ⌝ }
+{
+    if !between(1, MOST_CHANNELS, channels) {
+        return false;
+    }
+    if !between(0, MOST_LINES, delays.len() as u64) {
+        return false;
+    }
+    if !rising(delays) {
+        return false;
+    }
+    if !between(1, LONGEST, leap) {
+        return false;
+    }
+    between(channels, MOST_ROOM, room)
+}

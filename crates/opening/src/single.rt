@@ -1,0 +1,70 @@
+// A link of one channel, written into memory of any content: header, one leaf, all other places spare.
+ghost use mathlib.Core.Path.{_≡_};
+ghost use Prim.Native.Nat.{_+_, _*_, _≤_, _<_};
+ghost use lib.ListN.{length, getD};
+ghost use Rattle.numbers.specs.Words.{word};
+ghost use Rattle.rule.specs.Moments.{lastMoment};
+ghost use Rattle.rule.specs.Settings.{mostLines, mostRoom};
+ghost use Rattle.state.specs.Open.{single};
+ghost use Rattle.memory.specs.Header.{need};
+ghost use Rattle.memory.specs.Holds.{After};
+ghost use Rattle.opening.specs.Opening.{settings};
+ghost use Rattle.opening.specs.Stages.{Tail, bareHeader, Draft, Laid};
+use numbers::words::put;
+
+// The delay of line i + 1, and 0 where there is none.
+fn delay(delays: &[u64], i: usize) -> u64
+    ensures { λ d. ⌜ d ≡ getD (now (delays .entry)) i 0 ⌝ }
+{
+    if i < delays.len() { delays[i] } else { 0 }
+}
+
+// The header's last eighteen words: the delays, then zeros.
+fn put_delays(mem: &mut [u8], delays: &[u64])
+    requires { ⌜ 208 ≤ length (now mem) ⌝ }
+    ensures { λ _. ⌜ Tail 18 (now (delays .entry)) (now (mem .entry)) (now (mem .exit)) ⌝ }
+{
+    let mut i = 0;
+    while i < 18 {
+        put(mem, memory::DELAYS + i, delay(delays, i));
+        i += 1;
+    }
+}
+
+// The header of a link with one channel, one void and no spare place yet.
+fn put_header(mem: &mut [u8], room: u64, leap: u64, floor: u64, delays: &[u64])
+    requires { ⌜ (208 ≤ length (now mem)) × (length (now delays) ≤ mostLines) ⌝ }
+    ensures { λ _. ⌜ Draft (bareHeader room leap floor (now (delays .entry))) (now (mem .entry)) (now (mem .exit)) ⌝ }
+{
+    put_delays(mem, delays);
+    put(mem, memory::ROOM, room);
+    put(mem, memory::CHANNELS, 1);
+    put(mem, memory::LINES, delays.len() as u64);
+    put(mem, memory::LEAP, leap);
+    put(mem, memory::FLOOR, floor);
+    put(mem, memory::ROOT, 0);
+    put(mem, memory::KEPT, 1);
+    put(mem, memory::SPARE, 0);
+}
+
+// The n places from 1 on become the spare ones, the last one first.
+fn lay(mem: &mut [u8], n: usize)
+    requires { ⌜ (40 * n + 248 ≤ length (now mem)) × (n < 65536) × (word (now mem) 7 < 65536) ⌝ }
+    ensures { λ _. ⌜ Laid n n (now (mem .entry)) (now (mem .exit)) ⌝ }
+{
+    let mut k = 0;
+    while k < n {
+        memory::give_spare(mem, n - k, k as u64);
+        k += 1;
+    }
+}
+
+pub fn open_single(mem: &mut [u8], room: u64, leap: u64, floor: u64, delays: &[u64])
+    requires { ⌜ (need room ≤ length (now mem)) × (room ≤ mostRoom) × (floor ≤ lastMoment) × (length (now delays) ≤ mostLines) ⌝ }
+    ensures { λ _. ⌜ After (now (mem .entry)) (now (mem .exit)) (single (settings room 1 leap (now (delays .entry))) floor) ⌝ }
+{
+    put_header(mem, room, leap, floor, delays);
+    let key = rule::key::key(floor, 0);
+    node::save(mem, 0, node::leaf(key, rule::moments::OPEN_END));
+    lay(mem, (2 * room) as usize);
+}
