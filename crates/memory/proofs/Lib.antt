@@ -4,3 +4,4 @@ pub mod Shortening
 pub mod Adding
 pub mod Dropping
 pub mod Same
+pub mod Whole

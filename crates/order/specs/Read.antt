@@ -20,9 +20,9 @@ meant bytes (Booking arrival length lines used) = order used (booking arrival le
 meant bytes (Sweep moment used) = order used (sweep moment)
 meant bytes (Refused code) = unread code
 
--- how large the values can be: as wide as their fields
+-- how large the values can be: as wide as their fields; and an opening's length
 abbrev pub Narrow : Record → Type 0
-Narrow (Opening channels lines leap floor used) = (channels < 256) × (lines < 256) × (leap ≤ longest) × (floor ≤ lastMoment)
+Narrow (Opening channels lines leap floor used) = (channels < 256) × (lines < 256) × (leap ≤ longest) × (floor ≤ lastMoment) × (used ≡ 14 + 4 * lines)
 Narrow (Booking arrival length lines used) = (arrival ≤ lastMoment) × (length ≤ longest) × (lines < 2 ^ 16)
 Narrow (Sweep moment used) = moment ≤ lastMoment
 Narrow (Refused code) = code ≡ 11

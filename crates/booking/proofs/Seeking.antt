@@ -1,0 +1,167 @@
+-- The search over the starts, as its loop has it, and its steps: after i delays the whole search is the one over the
+-- delays left, with the visits so far.
+use mathlib.Core.Path.{_≡_, sym, ap, _∙_}
+use mathlib.Core.Bool.{Bool, true, false, false≢true}
+use mathlib.Core.List.{List, [], _∷_}
+use Prim.Native.Nat.{ℕ, suc, _+_, _*_, _≤_, _<_}
+use native.Mathlib.Numerals.{add-one}
+use native.Mathlib.Nat.{zero-add}
+use native.Mathlib.Omega.{arith}
+use lib.Dec.{leb}
+use lib.ListN.{length, getD, drop, drop-of-length-le}
+use lib.Seq.{drop-cons}
+use borrow.Author.Tests.{leb-true}
+use Rattle.numbers.specs.Words.{word}
+use Rattle.numbers.specs.Case.{pick}
+use Rattle.rule.specs.Moments.{lastMoment}
+use Rattle.rule.specs.Settings.{mostRoom, mostLines, longest}
+use Rattle.rule.specs.SettingsLaws.{in-bounds, rising-at}
+use Rattle.rule.specs.Starts.{Start, bit, tried, delayed, starts}
+use Rattle.shape.specs.Tree.{Tree, height}
+use Rattle.shape.specs.TreeLaws.{height-size}
+use Rattle.shape.specs.Visits.{Result, published}
+use Rattle.shape.specs.SearchLaws.{search-visits}
+use Rattle.node.specs.Rep.{Stands}
+use Rattle.search.specs.declared.Found.{Found}
+use Rattle.search.specs.Search.{Searchable, foundOf, found-visits, found-some, found-none}
+use Rattle.state.specs.State.{State}
+use Rattle.state.specs.Act.{Seeking, tryNext, seek}
+use Rattle.memory.specs.Holds.{Holds, Whole}
+use Rattle.memory.proofs.Parts.{padded-at}
+use Rattle.memory.proofs.Whole.{root-stands}
+use Rattle.booking.specs.Book.{takenOf}
+
+-- a search that n visits went before
+abbrev pub after : ℕ → Seeking → Seeking
+after n y = record { out = y .out; count = n + y .count }
+
+-- the delays' words
+eight : (i : ℕ) → 8 + i ≡ suc (suc (suc (suc (suc (suc (suc (suc i)))))))
+eight i = omega arith
+
+-- a delayed start that is tried
+tried-low : (r h p i d : ℕ) → tried r h p i d ≡ true → r + d + h ≤ lastMoment
+tried-low r h p i d = go (bit p i)
+  where
+    go : (b : Bool) → pick b (leb (r + d + h) lastMoment) false ≡ true → r + d + h ≤ lastMoment
+    go true q = leb-true (r + d + h) lastMoment q
+    go false q = absurd (false≢true q)
+
+-- ---- one start
+module _ (x : Found) (z : Result) (q : x ≡ foundOf z) (n : ℕ) (a : Start) (y : Seeking) where
+  fit : x .found ≡ true → record { found = true; line = a .line; start = a .moment; key = x .key; end = x .end; count = n + x .visits } ≡ takenOf (after n (tryNext a (z .out) (z .visits) y))
+  fit h = rw (found-some x z q h, found-visits x z q)
+
+  past : x .found ≡ false → after n (tryNext a (z .out) (z .visits) y) ≡ after (n + x .visits) y
+  past h =
+      let e : n + (z .visits + y .count) ≡ n + x .visits + y .count = omega (arith, found-visits x z q) in
+      rw (found-none x z q h, e)
+
+-- the most visits of one start
+abbrev pub most : ℕ
+most = 4 * mostRoom + 1
+
+-- ---- all of them
+module _ (m : List ℕ) (r h p : ℕ) where
+  -- what the whole search comes to, and what is left of it after i delays
+  abbrev pub whole : State → Seeking
+  whole s = seek (s .tree) h (starts (s .settings .delays) r h p)
+
+  abbrev pub left : State → ℕ → Seeking
+  left s i = seek (s .tree) h (delayed r h p i (drop i (s .settings .delays)))
+
+  pub record Going (count i : ℕ) : Type 0 where
+    pub rest : (s : State) → Holds m s → whole s ≡ after count (left s i)
+    pub few : count ≤ (i + 1) * most
+
+  module _ (root : ℕ) (er : root ≡ word m 5) where
+    low : (w : Whole m) → height (w .0 .tree) < mostRoom
+    low w = omega (arith, height-size (w .0 .tree), w .1 .within, in-bounds (w .0 .settings) (w .1 .bounds) .room)
+
+    pub searchable : Whole m → Searchable m root
+    searchable w = (w .0 .tree, root-stands (w .2) root er, omega (arith, low w))
+
+    -- x is what is found at the start b
+    abbrev pub Finds : (b : ℕ) → Found → Type 0
+    Finds b x = (t : Tree) → Stands m root t → x ≡ foundOf (published b (b + h) t)
+
+    is : (s : State) → Holds m s → (b : ℕ) (x : Found) → Finds b x → x ≡ foundOf (published b (b + h) (s .tree))
+    is s H b x g = g (s .tree) (root-stands H root er)
+
+    few-visits : Whole m → (b : ℕ) (x : Found) → Finds b x → x .visits ≤ most
+    few-visits w b x g =
+        let t = w .0 .tree in
+        omega (arith, found-visits x (published b (b + h) t) (is (w .0) (w .2) b x g), search-visits b (b + h) t, low w)
+
+    -- the undelayed start
+    module _ (x : Found) (g : Finds r x) where
+      pub at-once : x .found ≡ true → (s : State) → Holds m s
+          → record { found = true; line = 0; start = r; key = x .key; end = x .end; count = x .visits } ≡ takenOf (whole s)
+      at-once y s H = simp zero-add at (fit x (published r (r + h) (s .tree)) (is s H r x g) 0 (record { line = 0; moment = r }) (left s 0) y)
+
+      pub going-first : Whole m → x .found ≡ false → Going (x .visits) 0
+      going-first w y =
+          record {
+            rest = λ s H. simp zero-add at (past x (published r (r + h) (s .tree)) (is s H r x g) 0 (record { line = 0; moment = r }) (left s 0) y);
+            few = omega (arith, few-visits w r x g);
+          }
+
+    -- a delay more
+    module _ (lines : ℕ) (el : lines ≡ word m 2) (count i : ℕ) (G : Going count i) where
+      lines-are : (s : State) → Holds m s → lines ≡ length (s .settings .delays)
+      lines-are s H = el ∙ H .heads 2 (omega arith)
+
+      -- none is left
+      pub nowhere-left : lines ≤ i → (s : State) → Holds m s → record { found = false; line = 0; start = 0; key = 0; end = 0; count = count } ≡ takenOf (whole s)
+      nowhere-left l s H =
+          let e : drop i (s .settings .delays) ≡ [] = drop-of-length-le (s .settings .delays) {i = i} (omega (arith, lines-are s H)) in
+          let z : whole s ≡ after count (seek (s .tree) h (delayed r h p i [])) = rw e at (G .rest s H) in
+          let n : count ≡ count + 0 = omega arith in
+          rw z (rw (← n))
+
+      module _ (w : Whole m) (li : i < lines) where
+        pub few-lines : i < mostLines
+        few-lines = omega (arith, w .2 .lines, lines-are (w .0) (w .2))
+
+        module _ (d : ℕ) (ed : d ≡ word m (8 + i)) where
+          delay-is : (s : State) → Holds m s → d ≡ getD (s .settings .delays) i 0
+          delay-is s H = ed ∙ ap (word m) (eight i) ∙ H .heads (suc (suc (suc (suc (suc (suc (suc (suc i)))))))) (omega (arith, few-lines)) ∙ padded-at 18 (s .settings .delays) i (omega (arith, few-lines))
+
+          pub short-delay : d ≤ longest
+          short-delay = omega (arith, delay-is (w .0) (w .2), rising-at 0 (w .0 .settings .delays) (in-bounds (w .0 .settings) (w .1 .bounds) .delays) i)
+
+          next : (s : State) → Holds m s → whole s ≡ after count (seek (s .tree) h (delayed r h p i (d ∷ drop (suc i) (s .settings .delays))))
+          next s H =
+              let e : drop i (s .settings .delays) ≡ d ∷ drop (suc i) (s .settings .delays) =
+              drop-cons (s .settings .delays) i 0 (omega (arith, lines-are s H)) ∙ (rw (← delay-is s H)) in
+              rw e at (G .rest s H)
+
+          pub going-skipped : (b : Bool) → b ≡ tried r h p i d → b ≡ false → Going count (i + 1)
+          going-skipped b eb y = let q : tried r h p i d ≡ false = sym eb ∙ y in record { rest = λ s H. rw add-one (rw q at (next s H)); few = omega (arith, G .few) }
+
+          module _ (b : Bool) (eb : b ≡ tried r h p i d) (y : b ≡ true) where
+            q : tried r h p i d ≡ true
+            q = sym eb ∙ y
+
+            pub early : r + d + h ≤ lastMoment
+            early = tried-low r h p i d q
+
+            module _ (x : Found) (g : Finds (r + d) x) where
+              here : (s : State) → Holds m s → let z = published (r + d) (r + d + h) (s .tree) in whole s ≡ after count (tryNext (record { line = suc i; moment = r + d }) (z .out) (z .visits) (left s (suc i)))
+              here s H = rw q at (next s H)
+
+              pub few-more : (count ≤ (mostLines + 1) * most) × (x .visits ≤ most)
+              few-more = (omega (arith, G .few, few-lines), few-visits w (r + d) x g)
+
+              pub taken-here : x .found ≡ true → (s : State) → Holds m s
+                  → record { found = true; line = i + 1; start = r + d; key = x .key; end = x .end; count = count + x .visits } ≡ takenOf (whole s)
+              taken-here z s H =
+                  rw (add-one, here s H) (
+                  fit x (published (r + d) (r + d + h) (s .tree)) (is s H (r + d) x g) count (record { line = suc i; moment = r + d }) (left s (suc i)) z)
+
+              pub going-past : x .found ≡ false → Going (count + x .visits) (i + 1)
+              going-past z =
+                  record {
+                    rest = λ s H. rw add-one (here s H ∙ past x (published (r + d) (r + d + h) (s .tree)) (is s H (r + d) x g) count (record { line = suc i; moment = r + d }) (left s (suc i)) z);
+                    few = omega (arith, G .few, few-visits w (r + d) x g);
+                  }

@@ -1,0 +1,53 @@
+-- What booking promises in memory: of every state that the memory holds, the answer and the state after are those of `act`.
+use mathlib.Core.Path.{_≡_}
+use mathlib.Core.List.{List}
+use mathlib.Core.Bool.{Bool, true, false}
+use Prim.Native.Nat.{ℕ}
+use lib.Dec.{leb, eqb}
+use Rattle.numbers.specs.Case.{pick}
+use Rattle.rule.specs.Kept.{pieces}
+use Rattle.rule.specs.Key.{startOf}
+use Rattle.shape.specs.Tree.{size, In}
+use Rattle.rule.specs.Order.{booking}
+use Rattle.rule.specs.Starts.{starts}
+use Rattle.rule.specs.Answer.{seven, numbersOf}
+use Rattle.rule.specs.declared.answer.Answer.{Answer}
+use Rattle.state.specs.State.{State}
+use Rattle.state.specs.Act.{Sought, nowhere, found, Seeking, seek, split, act}
+use Rattle.state.specs.Room.{Room}
+use Rattle.state.specs.Sound.{Sound}
+use Rattle.memory.specs.Holds.{Holds, After}
+use Rattle.booking.specs.declared.Taken.{Taken}
+
+-- the code's struct for what the search over the starts came to: zeros where nothing fits
+abbrev pub takenAt : (count : ℕ) → Sought → Taken
+takenAt n nowhere = record { found = false; line = 0; start = 0; key = 0; end = 0; count = n }
+takenAt n (found i r p k e) = record { found = true; line = i; start = r; key = k; end = e; count = n }
+
+abbrev pub takenOf : Seeking → Taken
+takenOf y = takenAt (y .count) (y .out)
+
+abbrev pub Seeks : (r h m : ℕ) → Taken → List ℕ → Type 0
+Seeks r h m x mem = (s : State) → Holds mem s → x ≡ takenOf (seek (s .tree) h (starts (s .settings .delays) r h m))
+
+-- a void that may be taken apart: one of a sound link, with places for its pieces
+pub record Splitting (s : State) (k e r f : ℕ) : Type 0 where
+  pub sound : Sound s
+  pub place : ℕ
+  pub inside : In place k e (s .tree)
+  pub room : Room s k e r f
+
+abbrev pub Splittable : (k e r f : ℕ) → List ℕ → Type 0
+Splittable k e r f m = (s : State) × Splitting s k e r f × Holds m s
+
+abbrev pub Splits : (k e r f : ℕ) → (m m′ : List ℕ) → Type 0
+Splits k e r f m m′ = (s : State) → Splitting s k e r f → Holds m s → After m m′ (split s k e r f)
+
+-- "the void taken leaves two pieces and the room is full", as the rule's `tooMany` has it for a start already chosen
+abbrev pub overfull : State → (k e r f : ℕ) → Bool
+overfull s k e r f = pick (eqb (pieces (s .floor) (startOf k) e r f) 2) (leb (s .settings .room) (size (s .tree))) false
+
+-- the answer in 01's seven numbers, and the memory after
+pub record Books (r l lines : ℕ) (a : Answer) (m m′ : List ℕ) (s : State) : Type 0 where
+  pub answer : numbersOf a ≡ seven ((act s (booking r l lines)) .reply) ((act s (booking r l lines)) .count)
+  pub after : After m m′ ((act s (booking r l lines)) .after)

@@ -1,0 +1,158 @@
+// Booking on one link: the search over the starts tried, the void taken apart, the answer.
+ghost use mathlib.Core.Path.{_≡_};
+ghost use Prim.Native.Nat.{_+_, _≤_, _<_, _^_};
+ghost use Rattle.rule.specs.Moments.{lastMoment};
+ghost use Rattle.rule.specs.Settings.{longest};
+ghost use Rattle.rule.specs.Answer.{seven, numbersOf, refused};
+ghost use Rattle.state.specs.State.{State};
+ghost use Rattle.state.specs.Sound.{Sound};
+ghost use Rattle.memory.specs.Holds.{Holds, Whole};
+ghost use Rattle.booking.specs.Book.{Seeks, Splits, Splittable, overfull, Books};
+use numbers::words::get;
+use rule::answer::Answer;
+
+// What the search over the starts came to: the line, the start and the void taken, or none (then all are 0); and the visits.
+pub struct Taken {
+    pub found: bool,
+    pub line: u64,
+    pub start: u64,
+    pub key: u64,
+    pub end: u64,
+    pub count: u64,
+}
+
+// The starts tried, in their order, up to the first that has a fit.
+fn seek(mem: &[u8], arrival: u64, hold: u64, permitted: u64) -> Taken
+    requires { ⌜ (arrival + hold ≤ lastMoment) × (hold ≤ longest) ⌝ }
+    requires { ⌜ Whole (now mem) ⌝ }
+    ensures { λ x. ⌜ Seeks arrival hold permitted x (now (mem .entry)) ⌝ }
+{
+    let root = get(mem, memory::ROOT) as usize;
+    let lines = get(mem, memory::LINES) as usize;
+    let at_once = search::search(mem, root, arrival, arrival + hold);
+    let mut count = at_once.visits;
+    if at_once.found {
+        return Taken {
+            found: true,
+            line: 0,
+            start: arrival,
+            key: at_once.key,
+            end: at_once.end,
+            count,
+        };
+    }
+    let mut i: usize = 0;
+    while i < lines {
+        let d = get(mem, memory::DELAYS + i);
+        if rule::starts::tried(arrival, hold, permitted, i as u64, d) {
+            let start = arrival + d;
+            let x = search::search(mem, root, start, start + hold);
+            count += x.visits;
+            if x.found {
+                return Taken {
+                    found: true,
+                    line: i as u64 + 1,
+                    start,
+                    key: x.key,
+                    end: x.end,
+                    count,
+                };
+            }
+        }
+        i += 1;
+    }
+    Taken {
+        found: false,
+        line: 0,
+        start: 0,
+        key: 0,
+        end: 0,
+        count,
+    }
+}
+
+// The void of the key, which ends at e, gives the time from r up to f: its pieces stay, if they are kept.
+fn split(mem: &mut [u8], key: u64, e: u64, r: u64, f: u64)
+    requires { ⌜ Splittable key e r f (now mem) ⌝ }
+    requires { ⌜ f ≤ lastMoment ⌝ }
+    ensures { λ _. ⌜ Splits key e r f (now (mem .entry)) (now (mem .exit)) ⌝ }
+{
+    let floor = get(mem, memory::FLOOR);
+    let behind = rule::kept::kept(floor, f, e);
+    let next = rule::key::key(f, rule::key::channel(key));
+    let front = rule::kept::kept(floor, rule::key::start(key), r);
+    if front {
+        memory::shorten(mem, key, r);
+        if behind {
+            memory::add(mem, next, e);
+        }
+        return;
+    }
+    if behind {
+        memory::add(mem, next, e);
+    }
+    memory::drop(mem, key);
+}
+
+// A refusal "has 0 in all but code and count".
+fn refusal(code: u64, count: u64) -> Answer
+    ensures { λ a. ⌜ numbersOf a ≡ seven (refused code) count ⌝ }
+{
+    Answer {
+        code,
+        channel: 0,
+        line: 0,
+        start: 0,
+        finish: 0,
+        count,
+        dropped: 0,
+    }
+}
+
+// Whether the void taken leaves two pieces and the room is full.
+fn too_many(mem: &[u8], key: u64, e: u64, r: u64, f: u64) -> bool
+    requires { ⌜ Whole (now mem) ⌝ }
+    ensures { λ b. ⌜ ((s : State) → Holds (now (mem .entry)) s → b ≡ overfull s key e r f) ⌝ }
+{
+    let floor = get(mem, memory::FLOOR);
+    if rule::kept::kept(floor, rule::key::start(key), r) {
+        if rule::kept::kept(floor, f, e) {
+            return get(mem, memory::ROOM) <= get(mem, memory::KEPT);
+        }
+    }
+    false
+}
+
+// Books a burst on a whole link.
+pub fn book(mem: &mut [u8], arrival: u64, burst: u64, permitted: u64) -> Answer
+    requires { ⌜ (arrival ≤ lastMoment) × (burst ≤ longest) ⌝ }
+    requires { ⌜ Whole (now mem) ⌝ }
+    ensures { λ a. ⌜ ((s : State) → Sound s → Holds (now (mem .entry)) s → Books arrival burst permitted a (now (mem .entry)) (now (mem .exit)) s) ⌝ }
+{
+    let floor = get(mem, memory::FLOOR);
+    let lines = get(mem, memory::LINES);
+    let code = rule::codes::booking_code(floor, lines, arrival, burst, permitted);
+    if code != 0 {
+        return refusal(code, 0);
+    }
+    let hold = rule::fit::hold(burst);
+    let x = seek(mem, arrival, hold, permitted);
+    if !x.found {
+        return refusal(7, x.count);
+    }
+    let start = x.start;
+    let free = start + hold;
+    if too_many(mem, x.key, x.end, start, free) {
+        return refusal(8, x.count);
+    }
+    split(mem, x.key, x.end, start, free);
+    Answer {
+        code: 0,
+        channel: rule::key::channel(x.key),
+        line: x.line,
+        start,
+        finish: start + burst,
+        count: x.count,
+        dropped: 0,
+    }
+}

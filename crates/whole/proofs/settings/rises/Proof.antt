@@ -1,0 +1,59 @@
+-- `whole::settings::rises`: the delays that are left rise exactly if all of them do. Assumes nothing.
+use Prim.Native.Nat.{_≤_, _+_, _-_}
+use mathlib.Core.Path.{_≡_, sym, _∙_}
+use mathlib.Core.Logic.{inl, inr}
+use native.Mathlib.Omega.{arith}
+use Rattle.rule.specs.Settings.{rising}
+use Rattle.whole.specs.Settled.{listed}
+use Rattle.whole.proofs.Settling.{rise-start, rise-more, rise-not, rise-end}
+use Rattle.whole.proofs.settings.rises.Statement.{statement}
+use Rattle.whole.proofs.settings.rises.Tie as tie
+
+abbrev Inv-loop : tie.InvT-loop
+Inv-loop mem lines i₀ before₀ i before = (i ≤ lines) × (rising 0 (listed lines mem 8) ≡ rising before (listed (lines - i) mem (8 + i)))
+
+abbrev μ-loop : tie.MeasureT-loop
+μ-loop mem lines i₀ before₀ i before = lines - i
+
+loop-holds : tie.Need-loop-holds Inv-loop μ-loop
+loop-holds c = (omega arith, rise-start _ _)
+
+add-get : tie.Need-add-get Inv-loop μ-loop
+add-get c = omega arith
+
+get-requires : tie.Need-get-requires Inv-loop μ-loop
+get-requires c κs = omega arith
+
+returns : tie.Need-returns Inv-loop μ-loop
+returns c = sym (c .before .before .before .loop .inv .1 ∙ rise-not _ _ _ _ _ (c .before .before .loop-test .taken) (c .before .get .ensures) (inl (c .if1 .taken)))
+
+returns-2 : tie.Need-returns-2 Inv-loop μ-loop
+returns-2 c = sym (c .before .before .before .before .loop .inv .1 ∙ rise-not _ _ _ _ _ (c .before .before .before .loop-test .taken) (c .before .before .get .ensures) (inr (c .if2 .taken)))
+
+add-i : tie.Need-add-i Inv-loop μ-loop
+add-i c = omega arith
+
+loop-less : tie.Need-loop-less Inv-loop μ-loop
+loop-less c = omega arith
+
+loop-again : tie.Need-loop-again Inv-loop μ-loop
+loop-again c = (omega arith, c .before .before .before .before .loop .inv .1 ∙ rise-more _ _ _ _ _ (c .before .before .before .loop-test .taken) (c .before .before .get .ensures) (c .before .if1 .left) (c .if2 .left))
+
+returns-3 : tie.Need-returns-3 Inv-loop μ-loop
+returns-3 c = sym (c .before .loop .inv .1 ∙ rise-end _ _ _ _ (c .loop-test .left))
+
+pub rises-spec : {M : Type 1} → statement M
+rises-spec =
+    tie.close
+    (tie.spec
+    Inv-loop
+    μ-loop
+    loop-holds
+    add-get
+    get-requires
+    returns
+    returns-2
+    add-i
+    loop-less
+    loop-again
+    returns-3)

@@ -1,0 +1,4 @@
+pub mod Says
+pub mod Settled
+pub mod Survey
+pub mod Parts
