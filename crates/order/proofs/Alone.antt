@@ -73,7 +73,7 @@ by-mark-alone OS s t = fixed OS 8 s t _ refl (omega arith) refl (λ e. rw (← f
 by-mark-alone unknown s t = record { inside = omega arith; long = λ h. absurd (omega arith); alike = λ h. absurd (omega arith) }
 
 -- ---- any record
-inside : (s : List ℕ) → usedBy (reading s) ≤ length s
+pub inside : (s : List ℕ) → usedBy (reading s) ≤ length s
 unfolding reading
 inside s = elim (case-le 2 (length s)) [ inl a ↦ rw (a .1) (by-mark-alone (mark (field 0 2 s)) s s .inside) | inr a ↦ rw (a .1) (omega arith) ]
 

@@ -1,3 +1,4 @@
 pub mod Records
 pub mod Read
 pub mod Delays
+pub mod Kinds

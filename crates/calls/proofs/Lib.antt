@@ -1,0 +1,5 @@
+pub mod Delays
+pub mod Opening
+pub mod Stepping
+pub mod Deciding
+pub mod Running

@@ -1,0 +1,3 @@
+pub mod Opens
+pub mod Run
+pub mod Calls
