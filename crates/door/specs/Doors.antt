@@ -1,0 +1,13 @@
+-- What the doors promise: what crate `calls` promises, with the tally before and after in the caller's place.
+use mathlib.Core.List.{List}
+use Prim.Native.Nat.{ℕ}
+use Rattle.rule.specs.declared.tally.Tally.{Tally}
+use Rattle.calls.specs.declared.act.Acted.{Acted}
+use Rattle.calls.specs.declared.run.Ran.{Ran}
+use Rattle.calls.specs.Calls.{Acts, Runs}
+
+abbrev pub ActsAt : (t : Tally) (bytes : List ℕ) (t′ : Tally) → Acted → (m m′ : List ℕ) → Type 0
+ActsAt t bytes t′ a m m′ = Acts t bytes (record { tally = t′; acted = a }) m m′
+
+abbrev pub RunsAt : (t : Tally) (bytes : List ℕ) (t′ : Tally) → Ran → (m m′ out out′ : List ℕ) → Type 0
+RunsAt t bytes t′ r m m′ out out′ = Runs t bytes (record { tally = t′; ran = r }) m m′ out out′
