@@ -1,8 +1,29 @@
-# make        runs 01's session (once the program exists)
-# make test   everything that is checked: ends in `rt ci`, whose last line is the verdict
-.PHONY: all test
-all:
-	@echo "The session program is not built yet (crate session, docs/ARCHITECTURE.md). Run 'make test' for what is proved so far."
+# make                    plays 01's session
+# make session FILE=F     plays the records in F
+# make lib                target/staticlib/libdoor.a and include/curlywether.h, for C and Rust
+# make example            the C program of examples/c over that archive, under valgrind
+# make test               everything that is checked: ends in `rt ci`, whose last line is the verdict
+.PHONY: all session lib example test
+FILE ?= crates/session/stdin
+
+all: session
+
+session: target/bin/session
+	@target/bin/session < $(FILE)
+
+target/bin/session:
+	@mkdir -p target
+	@rt check session > target/session.log 2>&1 || { tail -5 target/session.log; exit 1; }
+
+lib: target/staticlib/libdoor.a
+
+target/staticlib/libdoor.a:
+	@mkdir -p target
+	@rt staticlib door > target/lib.log 2>&1 || { tail -5 target/lib.log; exit 1; }
+
+example: lib
+	@cc -std=c99 -Wall -Wextra -Werror -Iinclude examples/c/link.c target/staticlib/libdoor.a -o target/link
+	@valgrind -q --error-exitcode=1 target/link
 
 test:
 	@tests/run

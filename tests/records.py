@@ -2,7 +2,7 @@
 """Orders as bytes, from document 01's table of records alone.
 
 records.py write FILE      the bytes of a file of orders, to standard output
-records.py check           holds docs/RECORDS.md and tests/session/input to this script
+records.py check           holds docs/RECORDS.md and crates/session/stdin to this script
 
 An order is a line: OL channels leap floor delay .. | OB arrival length lines | OC arrival length | OS moment."""
 import os, re, sys
@@ -36,9 +36,9 @@ def orders(path):
 def check():
     wrong = []
     session = orders(os.path.join(HERE, "session", "orders"))
-    with open(os.path.join(HERE, "session", "input"), "rb") as f:
+    with open(os.path.join(HERE, "..", "crates", "session", "stdin"), "rb") as f:
         if f.read() != b"".join(encode(o) for o in session):
-            wrong.append("tests/session/input is not the bytes of tests/session/orders")
+            wrong.append("crates/session/stdin is not the bytes of tests/session/orders")
     with open(os.path.join(HERE, "..", "docs", "RECORDS.md")) as f:
         rows = re.findall(r"^\| `(O[LBCS] [^`]*)` \| `([0-9A-F ]+)` \|", f.read(), re.M)
     for order, text in rows:

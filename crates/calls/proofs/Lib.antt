@@ -3,3 +3,4 @@ pub mod Opening
 pub mod Stepping
 pub mod Deciding
 pub mod Running
+pub mod Within
