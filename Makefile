@@ -35,3 +35,10 @@ bench-tree:
 	@rt staticlib tree_archive > target/bench-tree.log 2>&1 || { tail -5 target/bench-tree.log; exit 1; }
 	@rustc -O --edition 2021 -L target/staticlib -l static=tree_archive bench/tree/main.rs -o target/bench-tree
 	@target/bench-tree
+
+# the link's check, sweep and run, through its archives (docs/BENCHMARKS.md)
+.PHONY: bench-link
+bench-link: lib
+	@rt staticlib link_archive > target/bench-link.log 2>&1 || { tail -5 target/bench-link.log; exit 1; }
+	@rustc -O --edition 2021 -L target/staticlib -l static=door -l static=link_archive bench/link/main.rs -o target/bench-link
+	@target/bench-link

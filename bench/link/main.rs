@@ -1,0 +1,239 @@
+//! The link through its archives: `rt staticlib door` and `rt staticlib link_archive` (docs/BENCHMARKS.md). Four tables: the
+//! whole-link check a void, hostile memories, sweeping a void dropped, and a run of records beside the link's own booking loop.
+use std::time::Instant;
+
+#[repr(C)]
+#[derive(Clone, Copy, Default, PartialEq, Debug)]
+struct Answer {
+    code: u64,
+    channel: u64,
+    line: u64,
+    start: u64,
+    finish: u64,
+    count: u64,
+    dropped: u64,
+}
+
+#[repr(C)]
+struct Opened {
+    code: u64,
+    used: usize,
+}
+
+#[repr(C)]
+struct Ran {
+    code: u64,
+    place: usize,
+    answered: usize,
+}
+
+extern "C" {
+    fn curlywether_open(mem: *mut u8, len: usize, room: u64, bytes: *const u8, n: usize) -> Opened;
+    fn curlywether_run(mem: *mut u8, len: usize, tally: *mut [u64; 10], bytes: *const u8, n: usize, out: *mut u64, m: usize) -> Ran;
+    fn link_book(mem: *mut u8, len: usize, arrival: u64, burst: u64, lines: u64) -> Answer;
+    fn link_sweep(mem: *mut u8, len: usize, moment: u64) -> Answer;
+    fn link_whole(mem: *const u8, len: usize) -> bool;
+}
+
+const HEADER: usize = 26;
+
+fn word(mem: &[u8], i: usize) -> u64 {
+    u64::from_le_bytes(mem[8 * i..8 * i + 8].try_into().unwrap())
+}
+
+fn put(mem: &mut [u8], i: usize, v: u64) {
+    mem[8 * i..8 * i + 8].copy_from_slice(&v.to_le_bytes());
+}
+
+/// A link of 16 channels with the widest leap and no line.
+fn opened(room: usize) -> Vec<u8> {
+    let mut mem = vec![0; 80 * room + 248];
+    let mut record = vec![0x4F, 0x4C, 16, 0, 0xFF, 0xFF, 0xFF, 0xFF];
+    record.extend([0; 6]);
+    let o = unsafe { curlywether_open(mem.as_mut_ptr(), mem.len(), room as u64, record.as_ptr(), record.len()) };
+    assert_eq!((o.code, o.used), (0, 14));
+    mem
+}
+
+fn book(mem: &mut [u8], arrival: u64, burst: u64) -> Answer {
+    unsafe { link_book(mem.as_mut_ptr(), mem.len(), arrival, burst, 0) }
+}
+
+fn whole(mem: &[u8]) -> bool {
+    unsafe { link_whole(mem.as_ptr(), mem.len()) }
+}
+
+/// The same with every place of the room in use.
+fn full(room: usize) -> Vec<u8> {
+    let mut mem = opened(room);
+    for i in 0..(room - 16) as u64 {
+        assert_eq!(book(&mut mem, 10 * i + 5, 2).code, 0);
+    }
+    assert_eq!(word(&mem, 6), room as u64);
+    mem
+}
+
+/// The median of several rounds of an action, in ns.
+fn median(mut act: impl FnMut() -> u64) -> f64 {
+    let mut rounds: Vec<u64> = (0..15).map(|_| act()).collect();
+    rounds.sort();
+    rounds[7] as f64
+}
+
+/// The check of one memory, in ns.
+fn check(mem: &[u8], yes: bool) -> f64 {
+    let times = 1 + 4_000_000 / mem.len();
+    median(|| {
+        let from = Instant::now();
+        for _ in 0..times {
+            assert_eq!(whole(std::hint::black_box(mem)), yes);
+        }
+        from.elapsed().as_nanos() as u64
+    }) / times as f64
+}
+
+fn links(mem: &[u8], p: usize) -> (u64, usize, usize) {
+    let w = word(mem, HEADER + 5 * p + 4);
+    (w >> 32, (w >> 16 & 0xFFFF) as usize, (w & 0xFFFF) as usize)
+}
+
+fn link(mem: &mut [u8], p: usize, left: usize, right: usize) {
+    let height = links(mem, p).0;
+    put(mem, HEADER + 5 * p + 4, height << 32 | (left as u64) << 16 | right as u64);
+}
+
+/// The last inner node on the right edge, and the last void.
+fn last(mem: &[u8]) -> (usize, usize) {
+    let mut p = word(mem, 5) as usize;
+    loop {
+        let right = links(mem, p).2;
+        if links(mem, right).0 == 0 {
+            return (p, right);
+        }
+        p = right;
+    }
+}
+
+/// Every inner node leads twice to its left child: as many ways as a tree of that height can have.
+fn shared(mem: &[u8]) -> Vec<u8> {
+    let mut bad = mem.to_vec();
+    let mut open = vec![word(mem, 5) as usize];
+    while let Some(p) = open.pop() {
+        let (height, left, right) = links(mem, p);
+        if 0 < height {
+            link(&mut bad, p, left, left);
+            open.extend([left, right]);
+        }
+    }
+    bad
+}
+
+/// One void is shared, at the far end: found only when everything before it was walked.
+fn shared_last(mem: &[u8]) -> Vec<u8> {
+    let mut bad = mem.to_vec();
+    let p = last(mem).0;
+    let left = links(mem, p).1;
+    link(&mut bad, p, left, left);
+    bad
+}
+
+/// A cycle at the far end.
+fn cycle(mem: &[u8]) -> Vec<u8> {
+    let mut bad = mem.to_vec();
+    let p = last(mem).0;
+    let left = links(mem, p).1;
+    link(&mut bad, p, left, word(mem, 5) as usize);
+    bad
+}
+
+/// The last void's greatest end lies.
+fn lying(mem: &[u8]) -> Vec<u8> {
+    let mut bad = mem.to_vec();
+    let at = HEADER + 5 * last(mem).1 + 2;
+    put(&mut bad, at, word(mem, at) - 1);
+    bad
+}
+
+/// A link of m voids, of which the sweep drops the first n; ns a sweep, the copying of the memory left out.
+fn sweep(room: usize, n: u64) -> (f64, u64) {
+    let kept = full(room);
+    let mut dropped = 0;
+    let ns = median(|| {
+        let mut all = 0;
+        for _ in 0..20 {
+            let mut mem = kept.clone();
+            let from = Instant::now();
+            let a = unsafe { link_sweep(mem.as_mut_ptr(), mem.len(), 10 * n) };
+            all += from.elapsed().as_nanos() as u64;
+            assert_eq!(a.code, 0);
+            dropped = a.dropped;
+        }
+        all / 20
+    });
+    (ns, dropped)
+}
+
+/// The same bookings as a run of records and as a loop over the link's own booking; ns a booking each.
+fn beside(room: usize, n: usize) -> (f64, f64) {
+    let mem = opened(room);
+    let mut seed = 88172645463325252u64;
+    let mut orders = Vec::new();
+    let mut records = Vec::new();
+    for _ in 0..n {
+        seed ^= seed << 13;
+        seed ^= seed >> 7;
+        seed ^= seed << 17;
+        let (arrival, burst) = (seed % (40 * n as u64), 1 + (seed >> 40) % 100);
+        orders.push((arrival, burst));
+        records.extend([0x4F, 0x42]);
+        records.extend(&arrival.to_be_bytes()[2..]);
+        records.extend(&(burst as u32).to_be_bytes());
+        records.extend([0, 0]);
+    }
+    let mut out = vec![0u64; 7 * n];
+    let run = median(|| {
+        let (mut m, mut tally) = (mem.clone(), [0u64; 10]);
+        let from = Instant::now();
+        let r = unsafe { curlywether_run(m.as_mut_ptr(), m.len(), &mut tally, records.as_ptr(), records.len(), out.as_mut_ptr(), out.len()) };
+        let ns = from.elapsed().as_nanos() as u64;
+        assert_eq!((r.code, r.answered), (0, n));
+        ns
+    });
+    let own = median(|| {
+        let mut m = mem.clone();
+        let mut answers = vec![Answer::default(); n];
+        let from = Instant::now();
+        for (i, &(arrival, burst)) in orders.iter().enumerate() {
+            answers[i] = book(&mut m, arrival, burst);
+        }
+        let ns = from.elapsed().as_nanos() as u64;
+        for (i, a) in answers.iter().enumerate() {
+            assert_eq!(out[7 * i..7 * i + 7], [a.code, a.channel, a.line, a.start, a.finish, a.count, a.dropped]);
+        }
+        ns
+    });
+    (run / n as f64, own / n as f64)
+}
+
+fn main() {
+    println!("| room, all in use | whole-link check, ns | ns a void | all subtrees shared, ns | one shared, last, ns | a cycle, last, ns | a lying end, last, ns |");
+    println!("|---|---|---|---|---|---|---|");
+    for room in [64, 1024, 4096] {
+        let good = full(room);
+        let ns = check(&good, true);
+        let bad = [shared(&good), shared_last(&good), cycle(&good), lying(&good)].map(|bad| check(&bad, false));
+        println!("| {room} | {ns:.0} | {:.1} | {} |", ns / room as f64, bad.map(|b| format!("{b:.0}")).join(" | "));
+        assert!(bad.iter().all(|b| *b <= 2.0 * ns), "a hostile memory took more than twice a good one's time");
+    }
+    println!("\n| voids | dropped | sweep, ns | ns a void dropped |\n|---|---|---|---|");
+    for (room, n) in [(1024, 0), (4096, 0), (1024, 10), (4096, 10), (1024, 500), (4096, 500), (4096, 3000)] {
+        let (ns, dropped) = sweep(room, n);
+        let each = if dropped == 0 { "-".into() } else { format!("{:.0}", ns / dropped as f64) };
+        println!("| {room} | {dropped} | {ns:.0} | {each} |");
+    }
+    println!("\n| bookings | in a run, ns each | the link's own loop, ns each | ratio |\n|---|---|---|---|");
+    for (room, n) in [(256, 200), (1024, 900), (4096, 4000)] {
+        let (run, own) = beside(room, n);
+        println!("| {n} | {run:.0} | {own:.0} | {:.2} |", run / own);
+    }
+}
