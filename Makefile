@@ -2,22 +2,27 @@
 # make session FILE=F     plays the records in F
 # make lib                target/staticlib/libdoor.a and include/curlywether.h, for C and Rust
 # make example            the C program of examples/c over that archive, under valgrind
-# make test               everything that is checked: ends in `rt ci`, whose last line is the verdict
-.PHONY: all session lib example test
+# make soak SECONDS=N     the second program against the core, at random, for so long
+# make picture            docs/session.svg, of 01's session
+# make test               everything that is checked: ends in `rt ci`'s output, whose last line is the verdict
+.PHONY: all session lib example test soak picture
 FILE ?= crates/session/stdin
+SECONDS ?= 600
 
 all: session
 
 session: target/bin/session
 	@target/bin/session < $(FILE)
 
-target/bin/session:
+SOURCES := $(shell find crates -name '*.rt' -o -name '*.antt') crates.txt
+
+target/bin/session: $(SOURCES)
 	@mkdir -p target
 	@rt check session > target/session.log 2>&1 || { tail -5 target/session.log; exit 1; }
 
 lib: target/staticlib/libdoor.a
 
-target/staticlib/libdoor.a:
+target/staticlib/libdoor.a: $(SOURCES)
 	@mkdir -p target
 	@rt staticlib door > target/lib.log 2>&1 || { tail -5 target/lib.log; exit 1; }
 
@@ -27,7 +32,13 @@ example: lib
 
 test:
 	@tests/run
-	@rt ci
+
+soak: lib target/bin/session
+	@tests/second/build.sh target/staticlib/libdoor.a target/second
+	@target/second soak --orders 100000000 --spoiled 10000000 --seconds $(SECONDS) --program target/bin/session
+
+picture:
+	@tools/picture crates/session/stdin crates/session/stdout > docs/session.svg
 
 # the tree's operations in ns, through its archive (docs/BENCHMARKS.md)
 .PHONY: bench-tree

@@ -1,0 +1,135 @@
+-- Demand 2, from what is right by the rule (Right.antt) to what the user asks for (Answered.antt), code 8 included.
+-- 01, codes: "nothing fits at any start tried"; "the void taken leaves two pieces and the room is full; no other void is tried".
+use mathlib.Core.Path.{_≡_, refl, sym, _∙_, ap, subst}
+use mathlib.Core.Bool.{Bool, true, false}
+use mathlib.Core.Logic.{_↔_}
+use mathlib.Core.List.{List, [], _∷_}
+use Prim.Native.Nat.{ℕ, zero, suc, _+_}
+use native.Mathlib.Omega.{arith}
+use lib.ListN.{length, getD}
+use Rattle.numbers.specs.Case.{pick}
+use Rattle.rule.specs.Settings.{Settings}
+use Rattle.rule.specs.Fit.{hold, free}
+use Rattle.rule.specs.Starts.{Start, starts}
+use Rattle.rule.specs.Voids.{Voids, Has, Meaning}
+use Rattle.rule.specs.Choice.{NoFit, Choice, nothing, taken, Chosen}
+use Rattle.rule.specs.Order.{Order, booking, sweep}
+use Rattle.rule.specs.Answer.{Reply, booked, swept, refused, seven}
+use Rattle.rule.specs.Codes.{bookingCode, tooMany, chosenReply}
+use Rattle.rule.specs.Rule.{Booking, Rule}
+use Rattle.rule.specs.Single.{OneEnd}
+use Rattle.state.specs.Exact.{AllStarts, startsOf, NothingFits, TwoPieces}
+use Rattle.state.specs.ExactLaws.{seven-exactly, eight-exactly}
+use Rattle.state.specs.VoidLaws.{chosen-as}
+use Rattle.state.specs.History.{Event, held, floorOf, Stretches}
+use Rattle.state.specs.LongestLaws.{longest-same}
+use Rattle.promise.specs.Session.{Accepted, Call, Calls, ordersOf, answersOf, history}
+use Rattle.promise.specs.Answered.{Fitted, Answered, AllAnswered}
+use Rattle.promise.specs.Right.{Right, AllRight}
+use Rattle.promise.specs.Gaps.{each-right}
+
+-- ---- what a code among the seven numbers says of the reply
+code-refused : (y : Reply) (n x : ℕ) → (getD (seven y n) 0 0 ≡ suc x) ↔ (y ≡ refused (suc x))
+code-refused (booked c i r f) n x = ((λ h. absurd (omega arith)), (λ h. absurd (let z : _≡_ {A = ℕ} 0 1 = cc h in omega arith)))
+code-refused (swept d) n x = ((λ h. absurd (omega arith)), (λ h. absurd (let z : _≡_ {A = ℕ} 0 1 = cc h in omega arith)))
+code-refused (refused k) n x = ((λ h. ap refused h), (λ h. cc h))
+
+-- a booking that is booked: the void that was chosen
+booked-fitted : (M N : Meaning) (r l p : ℕ) (y : Reply) (n : ℕ) → Rule M (booking r l p) y N → getD (seven y n) 0 0 ≡ 0
+    → Fitted (Has (M .voids)) (hold (M .settings) l) l (startsOf M r l p) (seven y n)
+booked-fitted M N r l p y n R z = go (bookingCode (M .settings) (M .floor) r l p) R
+  where
+    Is : Reply → Type 0
+    Is y = getD (seven y n) 0 0 ≡ 0 → Fitted (Has (M .voids)) (hold (M .settings) l) l (startsOf M r l p) (seven y n)
+
+    by : (o : Choice) → Chosen (Has (M .voids)) (hold (M .settings) l) (startsOf M r l p) o → Is (chosenReply (M .settings) (M .floor) (length (M .voids)) l o)
+    by nothing c = λ h. absurd (omega arith)
+    by (taken i b k s e) c = two (tooMany (M .settings) (M .floor) (length (M .voids)) l b s e)
+      where
+        two : (t : Bool) → Is (pick t (refused 8) (booked k i b (b + l)))
+        two true = λ h. absurd (omega arith)
+        two false = λ h. record { from = s; to = e; chosen = c; finish = refl }
+
+    go : (x : ℕ) → Booking M r l p y N x → Fitted (Has (M .voids)) (hold (M .settings) l) l (startsOf M r l p) (seven y n)
+    go zero B = subst Is (sym (B .2)) (by (B .0) (B .1)) z
+    go (suc x) B = absurd (let e = code-refused y n x .1 (B .0) in omega (arith, e, z))
+
+all-starts : {P Q : ℕ → Type 0} → ((b : ℕ) → P b → Q b) → (xs : List Start) → AllStarts P xs → AllStarts Q xs
+all-starts f [] a = tt
+all-starts f (x ∷ xs) a = (f (x .moment) (a .0), all-starts f xs (a .1))
+
+-- ---- over the history. r, l, p: a booking's arrival, length and permitted lines
+module _ (g : Settings) (F : ℕ) (past : List Event) (r l p : ℕ) (a : List ℕ) (R : Right g F past (booking r l p) a) where
+  -- the gaps, the ticks for which the burst holds its channel, the starts, and the codes 3 to 6
+  abbrev pub gaps : Voids
+  gaps = Stretches F (g .channels) past
+
+  abbrev pub held-for : ℕ
+  held-for = hold g l
+
+  abbrev pub tries : List Start
+  tries = starts (g .delays) r held-for p
+
+  abbrev pub judged : ℕ
+  judged = bookingCode g (floorOf F past) r l p
+
+  abbrev M : Meaning
+  M = R .before
+
+  one : OneEnd (Has (M .voids))
+  one c s e e′ i j =
+      let A = R .means .gaps c s e .0 i in
+      let B = R .means .gaps c s e′ .0 j in
+      longest-same F (held past) c s e s e′ s (A .1) (B .1) (omega arith) (A .1 .some) (omega arith) (B .1 .some) .1
+
+  same-code : bookingCode (M .settings) (M .floor) r l p ≡ judged
+  same-code = ap (λ s. bookingCode s (M .floor) r l p) (R .means .settings) ∙ ap (λ f. bookingCode g f r l p) (R .means .floor)
+
+  -- "each booking is the Min-SV fit": over the gaps of the history
+  pub booked-is-fit : getD a 0 0 ≡ 0 → Fitted gaps held-for l tries a
+  booked-is-fit z =
+      let q = booked-fitted M (R .after) r l p (R .reply) (R .count) (R .rule) (ap (λ n. getD n 0 0) (sym (R .are)) ∙ z) in
+      let u = subst (λ (s : Settings). Fitted (Has (M .voids)) (hold s l) l (starts (s .delays) r (hold s l) p) (seven (R .reply) (R .count))) (R .means .settings) q in
+      let v = subst (λ n. Fitted (Has (M .voids)) held-for l tries n) (sym (R .are)) u in
+      record { from = v .from; to = v .to; chosen = chosen-as (Has (M .voids)) gaps (R .means .gaps) held-for tries (taken (getD a 2 0) (getD a 3 0) (getD a 1 0) (v .from) (v .to)) (v .chosen); finish = v .finish }
+
+  -- "7: nothing fits at any start tried"
+  pub seven-is-none : (getD a 0 0 ≡ 7) ↔ ((judged ≡ 0) × AllStarts (λ b. NoFit gaps b (free b held-for)) tries)
+  seven-is-none = (
+    (λ h. let z = E .0 (code-refused (R .reply) (R .count) 6 .0 (ap (λ n. getD n 0 0) (sym (R .are)) ∙ h)) in (sym same-code ∙ z .0, there (z .1))),
+    (λ h. ap (λ n. getD n 0 0) (R .are) ∙ code-refused (R .reply) (R .count) 6 .1 (E .1 (same-code ∙ h .0, back (h .1)))),
+  )
+    where
+      E : (R .reply ≡ refused 7) ↔ ((bookingCode (M .settings) (M .floor) r l p ≡ 0) × NothingFits M r l p)
+      E = seven-exactly M one r l p (R .reply) (R .after) (R .rule)
+
+      over : Settings → Voids → Type 0
+      over s W = AllStarts (λ b. NoFit W b (free b (hold s l))) (starts (s .delays) r (hold s l) p)
+
+      there : over (M .settings) (Has (M .voids)) → over g gaps
+      there n = all-starts (λ b m c s e i. m c s e (R .means .gaps c s e .1 i)) tries (subst (λ s. over s (Has (M .voids))) (R .means .settings) n)
+
+      back : over g gaps → over (M .settings) (Has (M .voids))
+      back n = subst (λ s. over s (Has (M .voids))) (sym (R .means .settings)) (all-starts (λ b m c s e i. m c s e (R .means .gaps c s e .0 i)) tries n)
+
+  -- "8: the void taken leaves two pieces and the room is full"
+  pub eight-is-full : (getD a 0 0 ≡ 8) ↔ ((judged ≡ 0) × TwoPieces (R .before) r l p)
+  eight-is-full =
+      let E = eight-exactly M one r l p (R .reply) (R .after) (R .rule) in (
+        (λ h. let z = E .0 (code-refused (R .reply) (R .count) 7 .0 (ap (λ n. getD n 0 0) (sym (R .are)) ∙ h)) in (sym same-code ∙ z .0, z .1)),
+        (λ h. ap (λ n. getD n 0 0) (R .are) ∙ code-refused (R .reply) (R .count) 7 .1 (E .1 (same-code ∙ h .0, h .1))),
+      )
+
+-- ---- each order of a call
+right-answered : (g : Settings) (F : ℕ) (past : List Event) (o : Order) (a : List ℕ) → Right g F past o a → Answered g F past o a
+right-answered g F past (booking r l p) a R = record { accepted = booked-is-fit g F past r l p a R; seven = seven-is-none g F past r l p a R }
+right-answered g F past (sweep moment) a R = tt
+
+all-answered : (g : Settings) (F : ℕ) (past : List Event) (os : List Order) (a : List ℕ) → AllRight g F past os a → AllAnswered g F past os a
+all-answered g F past [] a R = tt
+all-answered g F past (o ∷ os) a R = (right-answered g F past o _ (R .0), all-answered g F _ os _ (R .1))
+
+-- (2) "each booking is the Min-SV fit by the statement's rules over the gaps that the whole accepted history leaves idle, and \"nothing
+-- fits\" is said exactly if nothing fits": for every sequence of calls since an accepted opening, of every order of a further call
+pub each-answered : {g : Settings} {F : ℕ} {m m′ m″ : List ℕ} → Accepted g F m → (cs : Calls m m′) → (c : Call m′ m″) → AllAnswered g F (history g cs) (ordersOf c) (answersOf c)
+each-answered {g} {F} A cs c = all-answered g F (history g cs) (ordersOf c) (answersOf c) (each-right A cs c)

@@ -1,0 +1,70 @@
+-- What a record of bytes can hold: a number of six bytes is a moment, an order uses some of its bytes, and what cannot be read is code 11.
+-- 01, Records: "Each record begins with a two-byte mark. Numbers are most significant byte first."
+use mathlib.Core.Path.{_≡_, refl, subst}
+use mathlib.Core.Logic.{inl, inr}
+use mathlib.Core.List.{List, [], _∷_}
+use Prim.Native.Nat.{ℕ, zero, suc, _+_, _*_, _^_, _≤_, _<_}
+use native.Mathlib.Omega.{arith}
+use native.Mathlib.Nat.{lt-of-lt-of-le}
+use lib.ListN.{length, take, drop, length-take}
+use lib.Pow.{pow-mono}
+use Rattle.numbers.specs.Case.{case-le}
+use Rattle.numbers.specs.Digits.{goesOn, digits, field}
+use Rattle.numbers.proofs.DigitLaws.{grows}
+use Rattle.rule.specs.Moments.{lastMoment}
+use Rattle.rule.specs.Order.{Order, booking, sweep}
+use Rattle.order.specs.Records.{Reading, unread, opening, order, Mark, OL, OB, OC, OS, unknown, mark, whole, linesOf, openingOf, bookingOf, compactOf, sweepOf, byMark, reading}
+use Rattle.node.proofs.Same.{Bytes}
+use Rattle.state.specs.Range.{InRange}
+
+-- ---- parts of a byte string are byte strings
+pub bytes-drop : (n : ℕ) (s : List ℕ) → Bytes s → Bytes (drop n s)
+bytes-drop zero s h = h
+bytes-drop (suc n) [] h = h
+bytes-drop (suc n) (x ∷ xs) h = bytes-drop n xs (λ j. h (suc j))
+
+pub bytes-take : (n : ℕ) (s : List ℕ) → Bytes s → Bytes (take n s)
+bytes-take zero s h j = omega arith
+bytes-take (suc n) [] h j = omega arith
+bytes-take (suc n) (x ∷ xs) h zero = h 0
+bytes-take (suc n) (x ∷ xs) h (suc j) = bytes-take n xs (λ i. h (suc i)) j
+
+-- ---- a number of n bytes has 8 n binary digits
+goes-below : (s : List ℕ) (a k : ℕ) → Bytes s → a < 2 ^ (8 * k) → goesOn a s < 2 ^ (8 * (k + length s))
+unfolding goesOn
+goes-below [] a k h g = let e : k + 0 ≡ k = omega arith in rw e g
+goes-below (b ∷ bs) a k h g =
+    let e : k + suc (length bs) ≡ k + 1 + length bs = omega arith in
+    rw e (goes-below bs (a * 256 + b) (k + 1) (λ j. h (suc j)) (grows a b k g (h 0)))
+
+pub moment-field : (i : ℕ) (s : List ℕ) → Bytes s → field i 6 s ≤ lastMoment
+unfolding digits
+moment-field i s h =
+    let t = take 6 (drop i s) in
+    let l : 8 * (0 + length t) ≤ 48 = omega (arith, length-take 6 (drop i s)) in
+    let g = lt-of-lt-of-le (goes-below t 0 0 (bytes-take 6 (drop i s) (bytes-drop i s h)) (omega arith)) (pow-mono l) in
+    omega (arith, g)
+
+-- ---- what is read of bytes
+abbrev pub Fair : List ℕ → Reading → Type 0
+Fair bytes (unread x) = x ≡ 11
+Fair bytes (opening n p) = (Bytes bytes → p .floor ≤ lastMoment)
+Fair bytes (order n o) = (1 ≤ n) × (n ≤ length bytes) × (Bytes bytes → InRange o)
+
+whole-fair : (n : ℕ) (bytes : List ℕ) (x : Reading) → (n ≤ length bytes → Fair bytes x) → Fair bytes (whole n bytes x)
+whole-fair n bytes x f = elim (case-le n (length bytes)) [ inl y ↦ rw (y .1) (f (y .0)) | inr y ↦ rw (y .1) refl ]
+
+mark-fair : (m : Mark) (bytes : List ℕ) → Fair bytes (byMark m bytes)
+unfolding byMark openingOf bookingOf compactOf sweepOf
+mark-fair OL bytes = whole-fair (14 + 4 * linesOf bytes) bytes _ (λ l h. moment-field 8 bytes h)
+mark-fair OB bytes = whole-fair 14 bytes (order 14 (booking (field 2 6 bytes) (field 8 4 bytes) (field 12 2 bytes))) (λ l. (omega arith, l, λ h. tt))
+mark-fair OC bytes = whole-fair 10 bytes (order 10 (booking (field 2 6 bytes) (field 8 2 bytes) 0)) (λ l. (omega arith, l, λ h. tt))
+mark-fair OS bytes = whole-fair 8 bytes (order 8 (sweep (field 2 6 bytes))) (λ l. (omega arith, l, λ h. moment-field 2 bytes h))
+mark-fair unknown bytes = refl
+
+pub reading-fair : (bytes : List ℕ) → Fair bytes (reading bytes)
+unfolding reading
+reading-fair bytes = whole-fair 2 bytes (byMark (mark (field 0 2 bytes)) bytes) (λ l. mark-fair (mark (field 0 2 bytes)) bytes)
+
+pub order-fair : (bytes : List ℕ) (n : ℕ) (o : Order) → reading bytes ≡ order n o → (1 ≤ n) × (n ≤ length bytes) × (Bytes bytes → InRange o)
+order-fair bytes n o q = subst (Fair bytes) q (reading-fair bytes)

@@ -1,0 +1,43 @@
+-- Demand 2 in words: the answer to an order is the rule's over the gaps that the history leaves. Names the history and the answer only.
+-- 01, The booking rule: "the voids kept are the maximal idle stretches of the history with end at or after the floor".
+use mathlib.Core.Path.{_≡_}
+use mathlib.Core.Logic.{_↔_}
+use mathlib.Core.List.{List, [], _∷_}
+use Prim.Native.Nat.{ℕ}
+use lib.ListN.{take, drop}
+use Rattle.rule.specs.Settings.{Settings}
+use Rattle.rule.specs.Voids.{Void, Has, Meaning}
+use Rattle.rule.specs.Order.{Order}
+use Rattle.rule.specs.Answer.{Reply, seven}
+use Rattle.rule.specs.Rule.{Rule}
+use Rattle.state.specs.History.{Event, floorOf, Stretches}
+use Rattle.promise.specs.Session.{heard}
+
+-- no void is listed twice, so that the list's length is the number of voids
+abbrev pub Once : List Void → Type 0
+Once [] = Unit {0}
+Once (v ∷ vs) = (¬ (Has vs (v .channel) (v .start) (v .end))) × Once vs
+
+-- M is what the history makes of a link opened with settings g and floor F: the gaps kept are its longest idle stretches with end at or
+-- after the floor
+pub record Means (g : Settings) (F : ℕ) (past : List Event) (M : Meaning) : Type 0 where
+  pub settings : M .settings ≡ g
+  pub floor : M .floor ≡ floorOf F past
+  pub gaps : (c s e : ℕ) → Has (M .voids) c s e ↔ Stretches F (g .channels) past c s e
+  pub once : Once (M .voids)
+
+-- the seven numbers are the right answer to the order, after this history
+pub record Right (g : Settings) (F : ℕ) (past : List Event) (o : Order) (numbers : List ℕ) : Type 0 where
+  pub reply : Reply
+  pub count : ℕ
+  pub are : numbers ≡ seven reply count
+  pub before : Meaning
+  pub after : Meaning
+  pub means : Means g F past before
+  pub rule : Rule before o reply after
+  pub leaves : Means g F (heard g o numbers past) after
+
+-- and so on for each order of a call
+abbrev pub AllRight : Settings → (F : ℕ) → List Event → List Order → (numbers : List ℕ) → Type 0
+AllRight g F past [] a = Unit {0}
+AllRight g F past (o ∷ os) a = Right g F past o (take 7 a) × AllRight g F (heard g o (take 7 a) past) os (drop 7 a)

@@ -1,0 +1,103 @@
+-- A run is its single orders one after the other, in memory, tally and answers; and what that makes of the tally's sum.
+-- 01, What comes back: "A single order gives the same seven." "While no count is at its top, the sum rises by the orders acted on."
+use mathlib.Core.Path.{_≡_, refl, sym, _∙_, ap, subst}
+use mathlib.Core.Logic.{inl, inr}
+use mathlib.Core.List.{List, [], _∷_, _++_}
+use Prim.Native.Nat.{ℕ, suc, _+_, _*_, _≤_}
+use native.Mathlib.Omega.{arith}
+use lib.ListN.{length, drop}
+use Rattle.rule.specs.declared.tally.Tally.{Tally}
+use Rattle.rule.specs.Order.{Order}
+use Rattle.rule.specs.Answer.{seven, numbersOf}
+use Rattle.rule.specs.Counts.{counts, sum}
+use Rattle.order.specs.Records.{Reading, unread, opening, order, reading}
+use Rattle.node.proofs.Same.{Bytes}
+use Rattle.state.specs.State.{State}
+use Rattle.state.specs.Act.{act}
+use Rattle.state.specs.Sound.{Sound}
+use Rattle.state.specs.SoundLaws.{act-sound}
+use Rattle.state.specs.Range.{AllInRange}
+use Rattle.memory.specs.Holds.{Holds, After}
+use Rattle.memory.proofs.Whole.{after-none, after-then}
+use Rattle.calls.specs.declared.act.Done.{Done}
+use Rattle.calls.specs.declared.run.RunDone.{RunDone}
+use Rattle.calls.specs.Run.{stepOn, runOn, flat}
+use Rattle.calls.specs.Calls.{StepsTo, Acts, Runs}
+use Rattle.promise.specs.Orders.{ordersIn, sevens, after, tallied}
+use Rattle.promise.specs.RecordLaws.{bytes-drop, order-fair}
+use Rattle.promise.specs.RunLaws.{run-is-orders, after-sound, after-settings, Below, below-all, sum-rises}
+use Rattle.promise.specs.Memories.{acts-on, after-one}
+
+-- single orders, each on the bytes that the one before did not use, on the memory and with the tally that it left
+pub data Singly : Tally → (bytes m : List ℕ) → (answers : List (List ℕ)) → Tally → (m′ : List ℕ) → Type 0 where
+  none : {t : Tally} {bytes m : List ℕ} → Singly t bytes m [] t m
+  more : {t t′ : Tally} {bytes m m₁ m′ : List ℕ} {answers : List (List ℕ)} (d : Done) → Acts t bytes d m m₁ → 1 ≤ d .acted .used
+      → Singly (d .tally) (drop (d .acted .used) bytes) m₁ answers t′ m′ → Singly t bytes m (numbersOf (d .acted .answer) ∷ answers) t′ m′
+
+pub record Singles (s : State) (t : Tally) (os : List Order) (m : List ℕ) (answers : List (List ℕ)) (t′ : Tally) (m′ : List ℕ) : Type 0 where
+  pub range : AllInRange os
+  pub numbers : answers ≡ sevens s os
+  pub tally : t′ ≡ tallied s t os
+  pub leaves : After m m′ (after s os)
+
+singles : {t t′ : Tally} {bytes m m′ : List ℕ} {answers : List (List ℕ)} → Singly t bytes m answers t′ m′ → Bytes bytes → (s : State) → Sound s → Holds m s
+    → Singles s t (ordersIn (length answers) bytes) m answers t′ m′
+singles none h s W H = record { range = tt; numbers = refl; tally = refl; leaves = after-none H }
+singles (more {t} {t′} {bytes} {m} {m₁} {m′} {answers} d a u r) h s W H =
+    go (reading bytes) refl (acts-on t bytes m m₁ d a s W H) (λ b u X K. singles r b u X K)
+  where
+    Rest : Type 0
+    Rest = Bytes (drop (d .acted .used) bytes) → (s : State) → Sound s → Holds m₁ s → Singles s (d .tally) (ordersIn (length answers) (drop (d .acted .used) bytes)) m₁ answers t′ m′
+
+    go : (z : Reading) → reading bytes ≡ z → StepsTo (stepOn s t (reading bytes)) d m m₁ → Rest → Singles s t (ordersIn (suc (length answers)) bytes) m (numbersOf (d .acted .answer) ∷ answers) t′ m′
+    go (unread x) q A further = absurd (let e = A .used ∙ ap (λ z. (stepOn s t z) .used) q in omega (arith, e, u))
+    go (opening n p) q A further = absurd (let e = A .used ∙ ap (λ z. (stepOn s t z) .used) q in omega (arith, e, u))
+    go (order n o) q A further =
+        let y = act s o in
+        let B : StepsTo (stepOn s t (order n o)) d m m₁ = subst (λ z. StepsTo (stepOn s t z) d m m₁) q A in
+        let z = order-fair bytes n o q in
+        let I = further (bytes-drop (d .acted .used) bytes h) (y .after) (act-sound s W o (z .2 h)) (B .after .holds) in
+        let J = subst (λ k. Singles (y .after) (d .tally) (ordersIn (length answers) (drop k bytes)) m₁ answers t′ m′) (B .used) I in
+        let os = ordersIn (length answers) (drop n bytes) in
+        rw q (record {
+          range = (z .2 h, J .range);
+          numbers = ap (λ l. l ∷ answers) (B .numbers) ∙ ap (λ l. seven (y .reply) (y .count) ∷ l) (J .numbers);
+          tally = J .tally ∙ ap (λ k. tallied (y .after) k os) (B .tally);
+          leaves = after-then (sym (after-settings (y .after) os)) (B .after) (J .leaves);
+        })
+
+no-singles : {t t″ : Tally} {bytes m m″ : List ℕ} {answers : List (List ℕ)} (out : List ℕ) → Singly t bytes m answers t″ m″ → length answers ≡ 0
+    → (t ≡ t″) × (m ≡ m″) × (out ≡ flat answers ++ drop (7 * length answers) out)
+no-singles out none z = (refl, refl, refl)
+no-singles out (more d a u r) z = absurd (omega arith)
+
+-- "act on a run of records": as many single orders leave the same memory, tally and numbers
+pub run-is-singly : (t t″ : Tally) (bytes m m′ m″ out out′ : List ℕ) (x : RunDone) (answers : List (List ℕ)) → Bytes bytes → Bytes m′ → Bytes m″
+    → Runs t bytes x m m′ out out′ → Singly t bytes m answers t″ m″ → length answers ≡ x .ran .answered
+    → (x .tally ≡ t″) × (m′ ≡ m″) × (out′ ≡ flat answers ++ drop (7 * length answers) out)
+run-is-singly t t″ bytes m m′ m″ out out′ x answers h p q (inl (s, W, H, A)) r e =
+    let y = runOn s t (length out) bytes in
+    let I = run-is-orders s t (length out) bytes in
+    let S = singles r h s W H in
+    let k : length (y .answers) ≡ length answers = sym (A .answered) ∙ sym e in
+    let os = ordersIn (length answers) bytes in
+    let f : (n : ℕ) → n ≡ length answers → ordersIn n bytes ≡ os = λ n j. ap (λ n. ordersIn n bytes) j in
+    let same : y .answers ≡ answers = I .answers ∙ ap (sevens s) (f _ k) ∙ sym (S .numbers) in (
+      A .tally ∙ I .tally ∙ ap (tallied s t) (f _ k) ∙ sym (S .tally),
+      after-one m m′ m″ (after s os) (after-sound s os W (S .range)) p q (subst (After m m′) (I .state ∙ ap (after s) (f _ k)) (A .after)) (S .leaves),
+      A .slice ∙ ap (λ l. flat l ++ drop (7 * length l) out) same,
+    )
+run-is-singly t t″ bytes m m′ m″ out out′ x answers h p q (inr (n, A)) r e =
+    let z : x .ran .answered ≡ 0 = ap (λ y. y .ran .answered) (A .answer) in
+    let N = no-singles out r (e ∙ z) in
+    (ap (λ y. y .tally) (A .answer) ∙ N .0, A .same ∙ N .1, A .slice ∙ N .2)
+
+-- "While no count is at its top, the sum rises by the orders acted on": over a run on any memory. A count at its top stays there
+pub run-sum : (t : Tally) (bytes m m′ out out′ : List ℕ) (x : RunDone) → Runs t bytes x m m′ out out′ → Below (x .tally) → sum (counts (x .tally)) ≡ sum (counts t) + x .ran .answered
+run-sum t bytes m m′ out out′ x (inl (s, W, H, A)) b =
+    let I = run-is-orders s t (length out) bytes in
+    let os = ordersIn (length ((runOn s t (length out) bytes) .answers)) bytes in
+    let e : x .tally ≡ tallied s t os = A .tally ∙ I .tally in
+    let z = sum-rises s t os (below-all s t os (subst Below e b) .1) in
+    ap (λ k. sum (counts k)) e ∙ (omega (arith, z, I .many, A .answered))
+run-sum t bytes m m′ out out′ x (inr (n, A)) b = rw (A .answer) (omega arith)

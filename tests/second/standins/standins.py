@@ -1,0 +1,95 @@
+#!/usr/bin/env python3
+"""Stand-ins for the core (mock.rs: the model behind the C functions), each wrong in one place; `second quick` must find every one.
+The first five are 01's. Then every demand of layout.rs's check is left out in turn; those in SAME follow from the others.
+usage: standins.py [first [last]]; about ten seconds each, the work in a temporary directory."""
+import os, subprocess, sys, shutil, tempfile
+here = os.path.dirname(os.path.abspath(__file__))
+src = os.path.join(here, "..")
+M, L, K = "model.rs", "layout.rs", "mock.rs"
+mutants = [
+ ("answers 7 to everything", K, "let mut s = a.seven;", "let mut s = a.seven; if a.used > 8 { link = image.link.clone(); s = [7,0,0,0,0,0,0]; }"),
+ ("always channel 0", K, "let mut s = a.seven;", "let mut s = a.seven; s[1] = 0;"),
+ ("books without changing the memory", K, "if s[0] == 0 { store(mem, &link); }", "if s[0] == 0 && a.used == 8 { store(mem, &link); }"),
+ ("books once, then pretends", K, "if s[0] == 0 { store(mem, &link); }", "if s[0] == 0 && (a.used == 8 || link.voids.len() as u64 <= link.channels + 1) { store(mem, &link); }"),
+ ("makes up its count", K, "for (r, f) in &a.tried { s[5] += image.search(*r, *f).1; }", "for (r, f) in &a.tried { s[5] += image.search(*r, *f).1 / 2 * 2; }"),
+ ("start must be before r", M, "self.start <= r && f <= self.end", "self.start < r && f <= self.end"),
+ ("end must be after f", M, "self.start <= r && f <= self.end", "self.start <= r && f < self.end"),
+ ("highest channel of equal starts", M, "fitting.max_by_key(|i| (self.voids[*i].start, u64::MAX - self.voids[*i].channel))", "fitting.max_by_key(|i| (self.voids[*i].start, self.voids[*i].channel))"),
+ ("earliest start taken", M, "fitting.max_by_key(|i| (self.voids[*i].start,", "fitting.max_by_key(|i| (u64::MAX - self.voids[*i].start,"),
+ ("drops e <= T", M, "retain(|void| void.end >= moment)", "retain(|void| void.end > moment)"),
+ ("cuts the straddling void", M, "self.floor = moment;", "self.floor = moment; for v in &mut self.voids { if v.end > moment { v.start = v.start.max(moment); } }"),
+ ("leap itself refused", M, "moment - self.floor > self.leap", "moment - self.floor >= self.leap"),
+ ("last moment refused", M, "if arrival + length > LAST_MOMENT", "if arrival + length >= LAST_MOMENT"),
+ ("delayed start past the end tried", M, "continue; // skipped", "tried.push((start, finish)); continue; // skipped"),
+ ("delayed start at the last moment skipped", M, "if finish > LAST_MOMENT {", "if finish >= LAST_MOMENT && line > 0 {"),
+ ("tries on after 8", M, "return refused(8);", "continue;"),
+ ("8 also with one piece", M, "if pieces.len() == 2 &&", "if pieces.len() >= 1 &&"),
+ ("zero pieces kept", M, "piece.start < piece.end).collect();", "piece.start <= piece.end).collect();"),
+ ("4 before 3", M, "if length == 0 {", "if length == 0 && arrival >= self.floor {"),
+ ("6 before 5", M, "if lines >> self.delays.len() != 0 {", "if arrival + length <= LAST_MOMENT && lines >> self.delays.len() != 0 {"),
+ ("OC length at the wrong place", M, "length: number(8, 2)?, lines: 0 }, 10)", "length: number(7, 2)?, lines: 0 }, 10)"),
+ ("tally wraps", M, "tally[which].saturating_add(1)", "tally[which].wrapping_add(1)"),
+ ("12 after 11", K, "if numbers - 7 * k < 7 {", "if numbers - 7 * k < 7 && model::read(&rec[place..]).is_some() {"),
+ ("6 numbers are enough", K, "if numbers - 7 * k < 7 { return Ran { code: 12, place, answered: k } }", "if numbers - 7 * k < 7 { if numbers - 7 * k == 6 { *a.add(7 * k) = 0; } return Ran { code: 12, place, answered: k } }"),
+ ("1 before 11", M, "let delays = (0..lines).map", "if lines > 16 { return Some((Record::Opening { channels, leap, floor, delays: vec![0] }, 14)) } let delays = (0..lines).map"),
+ ("equal delays pass", M, "pair[0] < pair[1])", "pair[0] <= pair[1])"),
+ ("65 channels pass", M, "(1..=64).contains(&channels)", "(1..=65).contains(&channels)"),
+ ("room 4097 passes", M, "(channels..=4096)", "(channels..=4097)"),
+ ("need one word less", M, "80 * room + 248", "80 * room + 240 + 8 * (room > 3) as u64"),
+ ("marks only above f", L, "if passed.top >= f {", "if passed.top > f {"),
+ ("goes right only after", L, "at.split / 1024 <= r {", "at.split / 1024 < r {"),
+ ("highest marked, not deepest", L, "if passed.top >= f {", "if passed.top >= f && marked.is_none() {"),
+ ("C counted from the marked node", L, "let Some(mut at) = marked else { return (None, visits) };", "let Some(mut at) = marked else { return (None, visits) }; visits += 1;"),
+ ("touching voids pass", L, "pair[0].end < pair[1].start", "pair[0].end <= pair[1].start"),
+ ("no open end passes", L, "void.end == OPEN_END).count() == 1", "void.end == OPEN_END).count() <= 1"),
+ ("ends before the floor pass", L, "demand(void.end >= floor,", "demand(void.end + 1 >= floor,"),
+ ("end at the floor refused", L, "demand(void.end >= floor,", "demand(void.end > floor,"),
+ ("unbalanced passes", L, "abs_diff(r.height) <= 1", "abs_diff(r.height) <= 2"),
+ ("heights not checked at the root", L, "demand(n.height == 1 + l.height.max(r.height)", "demand(n.height == 1 + l.height.max(r.height) || n.height == 2 + l.height.max(r.height)"),
+ ("low not checked", L, "demand(n.low == l.low.min(r.low), \"summaries: low\")", "Ok(())"),
+ ("a leaf's low not checked", L, "n.lo == n.split && n.top == n.low,", "n.lo == n.split,"),
+ ("the last spare's next not checked", L, "demand(after > 0 || n.right == 0,", "demand(true,"),
+ ("spare contents not checked", L, "n.lo == 0 && n.split == 0 && n.top == 0 && n.low == 0", "n.lo == 0 && n.split == 0 && n.top == 0"),
+ ("spare count not checked", L, "demand(n.left as u64 == after,", "demand(n.left as u64 == after || spares == 2,"),
+ ("word 25 not checked", L, "(lines as usize..18)", "(lines as usize..17)"),
+ ("kept above the room", L, "1 <= kept && kept <= room", "1 <= kept && kept <= room + 1"),
+ ("void beyond the open end", L, "demand(void.end <= OPEN_END,", "demand(true,"),
+ ("a channel the link lacks", L, "demand(void.channel < channels,", "demand(true,"),
+ ("empty voids pass", L, "demand(void.start < void.end,", "demand(void.start <= void.end,"),
+ ("floor past the last moment", M, "&& floor <= LAST_MOMENT", "&& floor <= OPEN_END"),
+ ("order not checked", L, "key(&pair[0]) < key(&pair[1])), \"ordered", "pair[0].start <= pair[1].start), \"ordered"),
+ ("code 8 writes", K, "(s, a.used) }", "if s[0] == 8 { let n = mem.len(); mem[n - 1] ^= 1; } (s, a.used) }"),
+ ("reads past the record", K, "match model::open(n, room, sl(r, len))", "if len > 0 { std::hint::black_box(std::ptr::read_volatile(r.add(len))); } match model::open(n, room, sl(r, len))"),
+]
+# these change nothing: a balanced tree keeps the height rule; distinct tree places and distinct spares of the right number are all places;
+# the tree walk checks the root's place again; a node met twice gives leaves out of order; a height that falls by one cannot be 2^31
+SAME = ["places: root an", "kept is the number", "height rule", "every place accounted", "demand(place < nodes.len()", "!seen[place], \"tree", "n.height <= 64"]
+# every demand of the check of wholeness left out in turn
+text = open(os.path.join(src, L)).read()
+for line in text.split("\n"):
+    if "demand(" in line and "fn demand" not in line and text.count(line.strip()) == 1:
+        mutants.append(("left out: " + line.strip()[:70], L, line.strip(), line.strip().replace("demand(", "demand(true || ", 1)))
+first = int(sys.argv[1]) if len(sys.argv) > 1 else 0
+last = int(sys.argv[2]) if len(sys.argv) > 2 else len(mutants)
+missed = 0
+for n, (name, file, old, new) in list(enumerate(mutants))[first:last]:
+    d = tempfile.mkdtemp(prefix="standin")
+    for f in ("model.rs", "layout.rs", "generate.rs"): shutil.copy(os.path.join(src, f), d)
+    text = open(os.path.join(here, K)).read().replace("../", "")
+    open(os.path.join(d, K), "w").write(text)
+    p = os.path.join(d, file); text = open(p).read()
+    assert text.count(old) == 1, (name, text.count(old))
+    open(p, "w").write(text.replace(old, new))
+    b = subprocess.run(["rustc", "--edition", "2021", "-O", "-Awarnings", "--crate-type", "staticlib", "-o", "libm.a", K], cwd=d, capture_output=True, text=True)
+    if b.returncode: print(n, name, "DOES NOT BUILD", b.stderr[:600]); continue
+    b = subprocess.run(["sh", os.path.join(src, "build.sh"), "libm.a", "second"], cwd=d, capture_output=True, text=True)
+    if b.returncode: print(n, name, "DOES NOT LINK", b.stderr[-400:]); continue
+    r = subprocess.run(["./second", "quick"], cwd=d, capture_output=True, text=True, timeout=200)
+    out = (r.stdout + r.stderr).strip().split("\n")
+    found = r.returncode == 1 or r.returncode == 101
+    same = not found and any(mark in name for mark in SAME)
+    missed += not found and not same
+    shutil.rmtree(d)
+    print(f"{n:3} {'found ' if found else 'same  ' if same else 'MISSED'} {name}: {(out[1] if len(out) > 1 else out[0])[:110]}", flush=True)
+print("missed", missed)
+sys.exit(missed > 0)
