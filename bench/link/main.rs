@@ -173,8 +173,8 @@ fn sweep(room: usize, n: u64) -> (f64, u64) {
     (ns, dropped)
 }
 
-/// The same bookings as a run of records and as a loop over the link's own booking; ns a booking each.
-fn beside(room: usize, n: usize) -> (f64, f64) {
+/// The same bookings as a run of records and as a loop over the link's own booking, and the run's one check; ns a booking each.
+fn beside(room: usize, n: usize) -> (f64, f64, f64) {
     let mem = opened(room);
     let mut seed = 88172645463325252u64;
     let mut orders = Vec::new();
@@ -212,7 +212,7 @@ fn beside(room: usize, n: usize) -> (f64, f64) {
         }
         ns
     });
-    (run / n as f64, own / n as f64)
+    (run / n as f64, own / n as f64, check(&mem, true) / n as f64)
 }
 
 fn main() {
@@ -231,9 +231,9 @@ fn main() {
         let each = if dropped == 0 { "-".into() } else { format!("{:.0}", ns / dropped as f64) };
         println!("| {room} | {dropped} | {ns:.0} | {each} |");
     }
-    println!("\n| bookings | in a run, ns each | the link's own loop, ns each | ratio |\n|---|---|---|---|");
+    println!("\n| bookings | in a run, ns each | the link's own loop, ns each | ratio | the run's one check, ns each | ratio without it |\n|---|---|---|---|---|---|");
     for (room, n) in [(256, 200), (1024, 900), (4096, 4000)] {
-        let (run, own) = beside(room, n);
-        println!("| {n} | {run:.0} | {own:.0} | {:.2} |", run / own);
+        let (run, own, check) = beside(room, n);
+        println!("| {n} | {run:.0} | {own:.0} | {:.2} | {check:.0} | {:.2} |", run / own, (run - check) / own);
     }
 }
