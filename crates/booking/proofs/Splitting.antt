@@ -11,6 +11,7 @@ use Rattle.rule.specs.Kept.{kept}
 use Rattle.rule.specs.Key.{keyOf, startOf, channelOf}
 use Rattle.shape.specs.Tree.{size}
 use Rattle.shape.specs.TreeLaws.{size-some}
+use Rattle.shape.specs.EvenLaws.{even-set, even-insert}
 use Rattle.state.specs.State.{State, first, rest, shorten, add, drop}
 use Rattle.state.specs.Act.{split}
 use Rattle.state.specs.Sound.{mostKey}
@@ -18,7 +19,7 @@ use Rattle.state.specs.KeptLaws.{case-kept}
 use Rattle.state.specs.PlaceLaws.{placed-shorten, placed-add}
 use Rattle.memory.specs.Holds.{Holds, After}
 use Rattle.memory.specs.Steps.{Link, Some, Roomy, Several, Shortens, Adds, Drops}
-use Rattle.memory.proofs.Sizes.{size-set, size-insert}
+use Rattle.shape.specs.SizeLaws.{size-set, size-insert}
 use Rattle.memory.proofs.Whole.{whole-link, floor-is, after-none, after-then}
 use Rattle.booking.specs.Book.{Splitting, overfull}
 
@@ -63,9 +64,11 @@ module _ (m : List ℕ) (k e r f : ℕ) (s : State) (S : Splitting s k e r f) (H
   -- the piece in front is kept
   module _ (m1 : List ℕ) (g : Shortens k r m m1) where
     short : Link m1 (shorten s k r)
+    unfolding shorten
     short =
         record {
           placed = placed-shorten s 0 mostKey (S .sound .ordered) (S .sound .balanced) (link .placed) (S .place) k e r (S .inside);
+          even = even-set k r (s .tree) (S .sound .balanced);
           holds = g s link .holds;
         }
 
@@ -104,6 +107,7 @@ module _ (m : List ℕ) (k e r f : ℕ) (s : State) (S : Splitting s k e r f) (H
           after = A;
           linked = record {
             placed = placed-add s 0 mostKey (S .sound .ordered) (S .sound .balanced) (link .placed) K e (omega arith) (S .room .key z) (S .room .clear z) (S .room .spare);
+            even = even-insert K e (first (s .spares)) (first (rest (s .spares))) (s .tree) (S .sound .balanced);
             holds = A .holds;
           };
           two = omega (arith, size-insert K e (first (s .spares)) (first (rest (s .spares))) (s .tree), size-some (s .tree));

@@ -6,7 +6,7 @@ use native.Mathlib.Omega.{arith}
 use lib.ListN.{length, getD, set}
 use Rattle.numbers.specs.Words.{word, store}
 use Rattle.shape.specs.Tree.{Tree, same, uses, size}
-use Rattle.shape.specs.TreeLaws.{height-size}
+use Rattle.shape.specs.HeightLaws.{height-few}
 use Rattle.shape.specs.PlaceLaws.{same-self, inners-uses}
 use Rattle.shape.specs.Arrange.{insert}
 use Rattle.node.specs.declared.Node.{Node}
@@ -20,7 +20,7 @@ use Rattle.memory.specs.Holds.{Spares, After}
 use Rattle.memory.specs.Steps.{Link, Roomy}
 use Rattle.memory.specs.Part.{Part}
 use Rattle.memory.proofs.Parts.{below-in, below-most, part-in, part-drop, part-first, part-put, part-tree, opened, closed}
-use Rattle.memory.proofs.Sizes.{size-insert}
+use Rattle.shape.specs.SizeLaws.{size-insert}
 use Rattle.memory.proofs.Shortening.{few, room-is, kept-is}
 
 -- ---- a place off the list
@@ -94,7 +94,8 @@ module _ (m : List ℕ) (s : State) (L : Link m s) (fit : word m 6 ≤ word m 0)
           (record {
             stands = record { rep = step-2 .1 .rep; at = sym (et ∙ step-2 .1 .heads 5 (omega arith)) };
             once = λ z. omega (arith, apart z, below-most z n);
-            low = omega (arith, height-size (s .tree), few m s L);
+            even = L .even;
+            low = height-few (s .tree) (L .even) (few m s L);
             room-leaf = inside Q (omega (arith, same-self Q));
             room-node = inside R (omega (arith, same-self R));
           })

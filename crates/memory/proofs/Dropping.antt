@@ -19,7 +19,7 @@ use Rattle.memory.specs.Holds.{spareNode, After}
 use Rattle.memory.specs.Steps.{Link, Several}
 use Rattle.memory.specs.Part.{Part}
 use Rattle.memory.proofs.Parts.{below-in, below-most, part-first, part-put, part-tree, part-give, opened, closed}
-use Rattle.memory.proofs.Sizes.{size-remove, tall-node}
+use Rattle.shape.specs.SizeLaws.{size-remove, tall-node}
 use Rattle.memory.proofs.Shortening.{room-is, kept-is, sole, alone}
 
 -- ---- a place onto the list

@@ -1,5 +1,4 @@
 pub mod Parts
-pub mod Sizes
 pub mod Shortening
 pub mod Adding
 pub mod Dropping

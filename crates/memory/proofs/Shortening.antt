@@ -5,14 +5,14 @@ use Prim.Native.Nat.{ℕ, _^_, _≤_, _<_}
 use native.Mathlib.Omega.{arith}
 use Rattle.numbers.specs.Words.{word, store}
 use Rattle.shape.specs.Tree.{place, size}
-use Rattle.shape.specs.TreeLaws.{height-size}
+use Rattle.shape.specs.HeightLaws.{height-few}
 use Rattle.shape.specs.ChangeLaws.{leaf-uses}
 use Rattle.tree.specs.Changes.{Sole, Alone, Sets}
 use Rattle.state.specs.State.{State, places, shorten, with-floor}
 use Rattle.memory.specs.Holds.{After}
 use Rattle.memory.specs.Steps.{Link}
 use Rattle.memory.proofs.Parts.{below-most, part-put, part-tree, opened, closed}
-use Rattle.memory.proofs.Sizes.{size-set}
+use Rattle.shape.specs.SizeLaws.{size-set}
 
 module _ (m : List ℕ) (s : State) (L : Link m s) where
   -- no link has more voids than this
@@ -35,7 +35,8 @@ module _ (m : List ℕ) (s : State) (L : Link m s) where
         record {
           stands = record { rep = L .holds .rep; at = sym (et ∙ root-is) };
           once = λ z. omega (arith, L .placed .all z, below-most z (places (s .settings .room)));
-          low = omega (arith, height-size (s .tree), few);
+          even = L .even;
+          low = height-few (s .tree) (L .even) few;
         }
 
     pub alone : Alone m t

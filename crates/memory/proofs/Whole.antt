@@ -13,7 +13,7 @@ use Rattle.memory.specs.Steps.{Link}
 use Rattle.memory.proofs.Parts.{past-none, past-then}
 
 pub whole-link : {m : List ℕ} {s : State} → Sound s → Holds m s → Link m s
-whole-link W H = record { placed = record { all = W .all; many = W .many }; holds = H }
+whole-link W H = record { placed = record { all = W .all; many = W .many }; even = W .balanced; holds = H }
 
 -- the tree stands where the root's word says
 pub root-stands : {m : List ℕ} {s : State} → Holds m s → (p : ℕ) → p ≡ word m 5 → Stands m p (s .tree)

@@ -1,14 +1,15 @@
 -- What the three steps, and another floor, promise in memory: of every state that the memory holds, the memory after holds the state's own step.
 use mathlib.Core.List.{List}
 use Prim.Native.Nat.{ℕ, _≤_}
-use Rattle.shape.specs.Tree.{size}
+use Rattle.shape.specs.Tree.{Balanced, size}
 use Rattle.state.specs.State.{State, shorten, add, drop, with-floor}
 use Rattle.state.specs.Places.{Placed}
 use Rattle.memory.specs.Holds.{Holds, After}
 
--- the memory holds a state whose places are accounted for
+-- the memory holds a state whose places are accounted for, with a balanced tree
 pub record Link (m : List ℕ) (s : State) : Type 0 where
   pub placed : Placed s
+  pub even : Balanced (s .tree)
   pub holds : Holds m s
 
 abbrev pub Some : List ℕ → Type 0

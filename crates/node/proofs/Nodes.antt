@@ -60,7 +60,7 @@ module _ (m : List ℕ) (p : ℕ) (n : Node) where
   unfolding saved
   length-saved = simp length-store
 
-  off : (b : ℕ) → (b < 208) ⊎ (same (placeOf b) p ≡ 0) → (b < 8 * base p) ⊎ (8 * base p + 40 ≤ b)
+  pub off : (b : ℕ) → (b < 208) ⊎ (same (placeOf b) p ≡ 0) → (b < 8 * base p) ⊎ (8 * base p + 40 ≤ b)
   off b (inl h) = inl (omega arith)
   off b (inr h) =
       let u : placeOf b ≢ p = same-none (placeOf b) p h in

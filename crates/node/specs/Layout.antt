@@ -2,6 +2,7 @@
 -- The numbers of the layout are here and in docs/ARCHITECTURE.md only.
 use mathlib.Core.Path.{_≡_}
 use mathlib.Core.Logic.{_⊎_}
+use mathlib.Core.Bool.{Bool, false}
 use mathlib.Core.List.{List}
 use Prim.Native.Nat.{ℕ, _+_, _*_, _-_, _/_, _%_, _≤_, _<_, min, max}
 use lib.ListN.{length, getD}
@@ -70,6 +71,22 @@ overNode x y l r =
       right = r;
     }
 
+-- the node n over the two others, its sums taken anew: height and places are as they were
+abbrev pub summedNode : (n x y : Node) → Node
+summedNode n x y =
+    record { height = n .height; lo = x .lo; split = y .lo; top = max (x .top) (y .top); low = min (x .low) (y .low); left = n .left; right = n .right }
+
+-- the node k with the sums of n: what is written where height and places stay
+abbrev pub withSums : (n k : Node) → Node
+withSums n k = record { height = k .height; lo = n .lo; split = n .split; top = n .top; low = n .low; left = k .left; right = k .right }
+
+unfoldable pub sumsSaved : List ℕ → ℕ → Node → List ℕ
+sumsSaved m p n = store (store (store (store m (base p) (n .lo)) (base p + 1) (n .split)) (base p + 2) (n .top)) (base p + 3) (n .low)
+
+-- two nodes say the same of what is below them
+abbrev pub SameSums : (x y : Node) → Type 0
+SameSums x y = (x .lo ≡ y .lo) × (x .split ≡ y .split) × (x .top ≡ y .top) × (x .low ≡ y .low)
+
 -- ---- the frame
 -- the place whose node has the byte b
 abbrev pub placeOf : (b : ℕ) → ℕ
@@ -97,3 +114,19 @@ pub record Mendable (m : List ℕ) (p l r : ℕ) : Type 0 where
   pub right : Within m r
   pub low-left : nodeAt m l .height < 4294967295
   pub low-right : nodeAt m r .height < 4294967295
+
+-- ---- a node summed up anew
+-- what that asks: p and its children are inside
+pub record Summable (m : List ℕ) (p : ℕ) : Type 0 where
+  pub at : Within m p
+  pub left : Within m (nodeAt m p .left)
+  pub right : Within m (nodeAt m p .right)
+
+-- m′ is m with p summed up anew
+abbrev pub Summed : (p : ℕ) → (m m′ : List ℕ) → Type 0
+Summed p m m′ = Saved p (summedNode (nodeAt m p) (nodeAt m (nodeAt m p .left)) (nodeAt m (nodeAt m p .right))) m m′
+
+-- and b is false only where that changed nothing
+pub record Sums (p : ℕ) (b : Bool) (m m′ : List ℕ) : Type 0 where
+  pub summed : Summed p m m′
+  pub still : b ≡ false → nodeAt m′ p ≡ nodeAt m p

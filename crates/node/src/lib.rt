@@ -1,8 +1,10 @@
 // A node of the tree in lent memory: five words, after a header of 26 words (docs/ARCHITECTURE.md).
 // Above this crate nobody speaks of a node's words: only of the node at a place.
 ghost use mathlib.Core.Path.{_≡_};
+ghost use mathlib.Core.Bool.{true};
+ghost use mathlib.Core.Logic.{_↔_};
 ghost use Prim.Native.Nat.{_+_, _*_, _≤_, _<_, min, max};
-ghost use Rattle.node.specs.Layout.{Within, Fits, nodeAt, leafNode, overNode, Saved, Over, Mendable};
+ghost use Rattle.node.specs.Layout.{Within, Fits, nodeAt, leafNode, overNode, summedNode, withSums, SameSums, Saved, Over, Mendable, Summable, Sums};
 
 pub struct Node {
     pub height: u64,
@@ -96,4 +98,63 @@ pub fn mend(mem: &mut [u8], p: usize, l: usize, r: usize)
 {
     let n = over(load(mem, l), load(mem, r), l as u64, r as u64);
     save(mem, p, n);
+}
+
+// The node n over two others, its sums taken anew.
+fn summed(n: Node, x: Node, y: Node) -> Node
+    ensures { λ s. ⌜ s ≡ summedNode n x y ⌝ }
+{
+    Node {
+        height: n.height,
+        lo: x.lo,
+        split: y.lo,
+        top: larger(x.top, y.top),
+        low: smaller(x.low, y.low),
+        left: n.left,
+        right: n.right,
+    }
+}
+
+// Writes the sums of n at place p; height and places stay.
+fn save_sums(mem: &mut [u8], p: usize, n: Node)
+    requires { ⌜ Within (now mem) p ⌝ }
+    ensures { λ _. ⌜ Saved p (withSums n (nodeAt (now (mem .entry)) p)) (now (mem .entry)) (now (mem .exit)) ⌝ }
+{
+    let b = 5 * p + 26;
+    numbers::words::put(mem, b, n.lo);
+    numbers::words::put(mem, b + 1, n.split);
+    numbers::words::put(mem, b + 2, n.top);
+    numbers::words::put(mem, b + 3, n.low);
+}
+
+// Whether two nodes say the same of what is below them.
+fn alike(x: Node, y: Node) -> bool
+    ensures { λ b. ⌜ (b ≡ true) ↔ SameSums x y ⌝ }
+{
+    if x.lo != y.lo {
+        return false;
+    }
+    if x.split != y.split {
+        return false;
+    }
+    if x.top != y.top {
+        return false;
+    }
+    x.low == y.low
+}
+
+// Sums up the children of the node p anew. Whether that changed anything.
+pub fn sum_up(mem: &mut [u8], p: usize) -> bool
+    requires { ⌜ Summable (now mem) p ⌝ }
+    ensures { λ b. ⌜ Sums p b (now (mem .entry)) (now (mem .exit)) ⌝ }
+{
+    let n = load(mem, p);
+    let x = load(mem, n.left as usize);
+    let y = load(mem, n.right as usize);
+    let s = summed(n, x, y);
+    if alike(n, s) {
+        return false;
+    }
+    save_sums(mem, p, s);
+    true
 }

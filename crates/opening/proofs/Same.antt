@@ -15,7 +15,7 @@ use Rattle.memory.specs.Header.{need}
 use Rattle.memory.specs.Steps.{Link}
 use Rattle.memory.proofs.Same.{one-after}
 use Rattle.opening.specs.Opening.{openingCode, Opens}
-use Rattle.opening.proofs.Widening.{placed-fresh}
+use Rattle.opening.proofs.Widening.{placed-fresh, wide-fresh}
 
 -- code 1 exactly if a bound is broken or the memory is smaller than the need, else code 0
 pub data Answer (g : Settings) (bytes : ℕ) : Type 0 where
@@ -38,7 +38,7 @@ module _ (g : Settings) (floor : ℕ) (m : List ℕ) where
       go : Answer g (length m) → Link m′ (fresh g floor)
       go (broken h e) = absurd (omega (arith, o .answer))
       go (small h e) = absurd (omega (arith, o .answer))
-      go (fine h l e) = record { placed = placed-fresh g floor h; holds = o .accepted refl .holds }
+      go (fine h l e) = record { placed = placed-fresh g floor h; even = wide-fresh g floor h .even; holds = o .accepted refl .holds }
 
   -- any two outcomes allowed are equal
   pub one-opening : (m′ m″ : List ℕ) (code code′ : ℕ) → Bytes m′ → Bytes m″ → Opens g floor m m′ code → Opens g floor m m″ code′ → (code ≡ code′) × (m′ ≡ m″)

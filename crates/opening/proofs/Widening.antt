@@ -13,9 +13,10 @@ use Rattle.rule.specs.Moments.{openEnd}
 use Rattle.rule.specs.Settings.{Settings, inBounds}
 use Rattle.rule.specs.SettingsLaws.{in-bounds}
 use Rattle.rule.specs.Key.{keyOf}
-use Rattle.shape.specs.Tree.{same, size}
+use Rattle.shape.specs.Tree.{same, size, Balanced}
 use Rattle.shape.specs.PlaceLaws.{same-self, same-other}
 use Rattle.shape.specs.ChangeLaws.{weight-insert}
+use Rattle.shape.specs.EvenLaws.{even-insert}
 use Rattle.state.specs.State.{State, first, rest, add}
 use Rattle.state.specs.Sound.{among, below}
 use Rattle.state.specs.Places.{Placed}
@@ -24,7 +25,7 @@ use Rattle.memory.specs.Header.{need}
 use Rattle.memory.specs.Holds.{Past, After}
 use Rattle.memory.specs.Steps.{Link, Roomy, Adds}
 use Rattle.memory.proofs.Parts.{below-is, below-out, past-none, past-then, part-put, opened, closed}
-use Rattle.memory.proofs.Sizes.{size-insert}
+use Rattle.shape.specs.SizeLaws.{size-insert}
 use Rattle.memory.proofs.Adding.{two}
 use Rattle.opening.specs.Stages.{Begun}
 use Rattle.opening.proofs.Beginning.{length-up}
@@ -48,6 +49,7 @@ among-up z p (suc n) =
 -- ---- a state of j channels on the way to those of g
 pub record Wide (g : Settings) (F j : ℕ) (s : State) : Type 0 where
   pub placed : Placed s
+  pub even : Balanced (s .tree)
   pub many : size (s .tree) ≡ j
   pub channels : s .settings .channels ≡ j
   pub room : s .settings .room ≡ g .room
@@ -62,6 +64,7 @@ wide-single g floor =
             omega (arith, rw e at (among-up z 1 (2 * g .room)), below-next z 0, below-out z 0 (omega arith));
         many = omega (arith, length-up 1 (2 * g .room));
       };
+      even = tt;
       many = refl;
       channels = refl;
       room = refl;
@@ -84,6 +87,7 @@ wide-step g floor j s fit w =
         all = λ z. omega (arith, rw e at (w .placed .all z), weight-insert (λ p k e. same z p) (same z) k openEnd Q R (s .tree));
         many = omega (arith, w .placed .many, ap length e, size-insert k openEnd Q R (s .tree));
       };
+      even = even-insert k openEnd Q R (s .tree) (w .even);
       many = omega (arith, w .many, size-insert k openEnd Q R (s .tree));
       channels = omega (arith, w .channels);
       room = w .room;
@@ -140,12 +144,12 @@ module _ (g : Settings) (channels floor : ℕ) (m0 : List ℕ) (B : Begun g chan
     module _ (m1 : List ℕ) (e1 : m1 ≡ store m 1 (c + 1)) where
       numbered : After m m1 (more s)
       numbered =
-          let P = part-put m m _ _ (s .tree) (s .spares) (opened m s (record { placed = W .placed; holds = A .holds })) 1 (c + 1) (omega arith) (omega (arith, limits)) in
+          let P = part-put m m _ _ (s .tree) (s .spares) (opened m s (record { placed = W .placed; even = W .even; holds = A .holds })) 1 (c + 1) (omega arith) (omega (arith, limits)) in
           let n : c + 1 ≡ s .settings .channels + 1 = omega (arith, W .channels) in
           closed m m1 (more s) (A .holds .lines) (rw (e1, ← n) P)
 
       link : Link m1 (more s)
-      link = record { placed = record { all = W .placed .all; many = W .placed .many }; holds = numbered .holds }
+      link = record { placed = record { all = W .placed .all; many = W .placed .many }; even = W .even; holds = numbered .holds }
 
       pub roomy : Roomy m1
       roomy = (more s, link, omega (arith, W .many, W .room, limits))
@@ -165,8 +169,11 @@ both g floor m m1 m2 a b =
     let p : Past (need (g .room)) m1 m2 = rw e at (b .past) in
     record { holds = b .holds; past = rw e (past-then (a .past) p) }
 
--- ---- of an accepted opening, the places are accounted for
-pub placed-fresh : (g : Settings) (floor : ℕ) → inBounds g ≡ true → Placed (fresh g floor)
-placed-fresh g floor h =
+-- ---- of an accepted opening, the places are accounted for, and the tree is balanced
+pub wide-fresh : (g : Settings) (floor : ℕ) → inBounds g ≡ true → Wide g floor (g .channels) (fresh g floor)
+wide-fresh g floor h =
     let b = in-bounds g h in
-    wide g floor (g .channels) (b .channels .0) (omega (arith, b .room .0)) .placed
+    wide g floor (g .channels) (b .channels .0) (omega (arith, b .room .0))
+
+pub placed-fresh : (g : Settings) (floor : ℕ) → inBounds g ≡ true → Placed (fresh g floor)
+placed-fresh g floor h = wide-fresh g floor h .placed

@@ -2,7 +2,7 @@
 -- at least 2^((h+1)/2) leaves.
 use mathlib.Core.Path.{_≡_}
 use mathlib.Core.Logic.{inl, inr}
-use Prim.Native.Nat.{ℕ, suc, _+_, _*_, _/_, _^_, _≤_, max}
+use Prim.Native.Nat.{ℕ, suc, _+_, _*_, _/_, _^_, _≤_, max, _<_}
 use native.Mathlib.Omega.{arith}
 use lib.Pow.{pow-mono}
 use Rattle.numbers.specs.Case.{case-le}
@@ -23,6 +23,13 @@ pub height-log : (t : Tree) (w : ℕ) → Balanced t → Log2 (size t) w → hei
 height-log t w b x = elim (case-le (height t) (2 * w)) [
   | inl y ↦ y .0
   | inr y ↦ let u : w + 1 ≤ (height t + 1) / 2 = omega arith in absurd (omega (arith, leaves-least t b, pow-mono u, x .high))
+]
+
+-- a tree of at most 2^15 leaves is lower than 32
+pub height-few : (t : Tree) → Balanced t → size t ≤ 32768 → height t < 32
+height-few t b h = elim (case-le 32 (height t)) [
+  | inl y ↦ let u : 16 ≤ (height t + 1) / 2 = omega arith in absurd (omega (arith, leaves-least t b, pow-mono u))
+  | inr y ↦ y .0
 ]
 
 -- "with m leaves the height, counted in edges, is at most twice the whole part of log2 m"

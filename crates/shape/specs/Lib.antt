@@ -10,6 +10,8 @@ pub mod SideLaws
 pub mod TurnLaws
 pub mod ChangeLaws
 pub mod BalanceLaws
+pub mod EvenLaws
+pub mod SizeLaws
 pub mod ListLaws
 pub mod LeadLaws
 pub mod InsertLaws

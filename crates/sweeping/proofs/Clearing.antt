@@ -23,7 +23,7 @@ use Rattle.state.specs.Sound.{Sound}
 use Rattle.state.specs.DropLaws.{Droppable, drop-step, drop-done}
 use Rattle.memory.specs.Holds.{Holds, Whole, After}
 use Rattle.memory.specs.Steps.{Several, Drops}
-use Rattle.memory.proofs.Sizes.{size-remove}
+use Rattle.shape.specs.SizeLaws.{size-remove}
 use Rattle.memory.proofs.Whole.{whole-link, root-stands, after-none, after-then}
 use Rattle.sweeping.specs.Swept.{Clears}
 

@@ -12,6 +12,7 @@ use Rattle.node.specs.declared.Node.{Node}
 use Rattle.node.specs.Layout.{Within, nodeAt, leafNode, Saved, Mendable}
 use Rattle.shape.specs.ChangeLaws.{insert-leaf, insert-side, weight-insert, height-insert}
 use Rattle.shape.specs.PlaceLaws.{inners-uses}
+use Rattle.shape.specs.EvenLaws.{kids}
 use Rattle.node.proofs.Frames.{kept-then, within-kept}
 use Rattle.node.proofs.Reps.{tall, within, stands-frame, leaf-stands}
 use Rattle.tree.specs.Turns.{OverOn, Two, Both, BalancesOn}
@@ -53,12 +54,13 @@ module _ (m : List ℕ) (t p q : ℕ) (n : Node) (en : n ≡ nodeAt m t) (nz : n
   below : (v : ℕ) (l r : Tree) → Fresh m t p q (node v l r) → Children m t n en s x y v l r
   below v l r g = children m t n en s x y v l r ex ey (g .stands)
 
-  fresh-near : (v : ℕ) (l r : Tree) → Fresh m t p q (node v l r) → Fresh m x p q (near s l r)
+  pub fresh-near : (v : ℕ) (l r : Tree) → Fresh m t p q (node v l r) → Fresh m x p q (near s l r)
   fresh-near v l r g =
       let c = below v l r g in
       record {
         stands = c .near-at;
         once = λ z. omega (arith, g .once z, uses-sides z s l r);
+        even = kids s v l r (g .even) .first;
         low = omega (arith, g .low, c .high, reads-height m t n en (g .stands));
         room-leaf = g .room-leaf;
         room-node = g .room-node;

@@ -4,4 +4,9 @@ pub mod Balancing
 pub mod Setting
 pub mod Growing
 pub mod Cutting
+pub mod Tracing
+pub mod Above
+pub mod Climbing
+pub mod Settling
+pub mod Starting
 pub mod Single

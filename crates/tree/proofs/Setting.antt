@@ -11,6 +11,7 @@ use Rattle.shape.specs.Arrange.{setEnd, leafOf}
 use Rattle.node.specs.declared.Node.{Node}
 use Rattle.node.specs.Layout.{Within, nodeAt, leafNode, Saved, Mendable}
 use Rattle.shape.specs.ChangeLaws.{leaf-uses, set-side, leaf-side, weight-set, height-set}
+use Rattle.shape.specs.EvenLaws.{kids}
 use Rattle.node.proofs.Frames.{kept-then, kept-less, within-kept}
 use Rattle.node.proofs.Reps.{tall, within, stands-frame, leaf-stands}
 use Rattle.tree.specs.Turns.{OverOn, Two}
@@ -43,7 +44,12 @@ module _ (m : List ℕ) (t : ℕ) (n : Node) (e : n ≡ nodeAt m t) (nz : n .hei
   pub sole-near : (q : ℕ) (l r : Tree) → Sole m t (node q l r) → Sole m x (near s l r)
   sole-near q l r g =
       let c = below q l r g in
-      record { stands = c .near-at; once = λ z. omega (arith, g .once z, uses-sides z s l r); low = omega (arith, g .low, c .high, reads-height m t n e (g .stands)) }
+      record {
+        stands = c .near-at;
+        once = λ z. omega (arith, g .once z, uses-sides z s l r);
+        even = kids s q l r (g .even) .first;
+        low = omega (arith, g .low, c .high, reads-height m t n e (g .stands));
+      }
 
   -- the place gone to: a tree stands there alone, and it is lower; another stands on the other side
   pub record Down : Type 0 where

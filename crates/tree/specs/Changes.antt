@@ -3,18 +3,23 @@
 use mathlib.Core.Path.{_≡_}
 use mathlib.Core.List.{List}
 use Prim.Native.Nat.{ℕ, _+_, _≤_, _<_}
-use Rattle.shape.specs.Tree.{Tree, height, same, uses, inners, Once}
+use Rattle.shape.specs.Tree.{Tree, height, same, uses, inners, Once, Balanced}
 use Rattle.shape.specs.Arrange.{insert, remove, leafOf, above, setEnd}
-use Rattle.node.specs.Layout.{highest, Within, Kept}
+use Rattle.node.specs.Layout.{Within, Kept}
 use Rattle.node.specs.Rep.{Stands}
 use Rattle.tree.specs.declared.Cut.{Cut}
 
 -- ---- what is asked
+-- a way from the root down to a leaf has at most this many places (a link's trees are lower)
+abbrev pub longestWay : ℕ
+longestWay = 32
+
 -- the tree stands at t, each place once
 pub record Sole (m : List ℕ) (t : ℕ) (tr : Tree) : Type 0 where
   pub stands : Stands m t tr
   pub once : Once tr
-  pub low : height tr ≤ highest
+  pub even : Balanced tr
+  pub low : height tr < longestWay
 
 abbrev pub Alone : List ℕ → ℕ → Type 0
 Alone m t = (tr : Tree) × Sole m t tr
@@ -23,7 +28,8 @@ Alone m t = (tr : Tree) × Sole m t tr
 pub record Fresh (m : List ℕ) (t p q : ℕ) (tr : Tree) : Type 0 where
   pub stands : Stands m t tr
   pub once : (z : ℕ) → uses z tr + same z p + same z q ≤ 1
-  pub low : height tr < highest
+  pub even : Balanced tr
+  pub low : height tr < longestWay
   pub room-leaf : Within m p
   pub room-node : Within m q
 

@@ -1,11 +1,16 @@
 // The tree of voids in lent memory: turn, balance, insert, remove, set an end (the arrangement is that of shape's Arrange).
-// Left and right are one parameter; each function goes down by recursion, the height falling at each call.
+// Left and right are one parameter. A change goes down by a way that it notes, and up again as far as anything changes.
 ghost use mathlib.Core.Path.{_≡_};
-ghost use Prim.Native.Nat.{_+_, _≤_};
+ghost use Prim.Native.Nat.{_+_, _≤_, _<_};
+ghost use lib.ListN.{length};
 ghost use Rattle.shape.specs.Side.{near, far};
 ghost use Rattle.node.specs.Layout.{nodeAt, Mendable};
 ghost use Rattle.tree.specs.Turns.{OverOn, Both, Turns, Balances, BalancesOn};
 ghost use Rattle.tree.specs.Changes.{Alone, Ready, Sets, Inserts, Removes};
+ghost use Rattle.tree.specs.Ways.{Way, Settled, Settles, Risen, Rises};
+
+// The longest way from a root down to a leaf, in places (specs/Changes.antt).
+const LONGEST_WAY: usize = 32;
 
 // Of a node's children, the one on the side named, and the other.
 fn near(left: bool, l: u64, r: u64) -> usize
@@ -85,20 +90,73 @@ fn balance_on(mem: &mut [u8], w: usize, x: usize, y: usize, left: bool) -> usize
     }
 }
 
+// The places from the root down to the leaf that the key leads to. How many steps that is.
+fn trace(mem: &[u8], root: usize, key: u64, way: &mut [u16]) -> usize
+    requires { ⌜ nodeAt (now mem) root .height < length (now way) ⌝ }
+    requires { ⌜ Alone (now mem) root ⌝ }
+    ensures { λ d. ⌜ Way (now (mem .entry)) root key d (now (way .exit)) ⌝ }
+{
+    let mut at = root;
+    let mut depth = 0;
+    way[0] = root as u16;
+    let mut n = node::load(mem, at);
+    while n.height != 0 {
+        at = near(key < n.split, n.left, n.right);
+        depth += 1;
+        way[depth] = at as u16;
+        n = node::load(mem, at);
+    }
+    depth
+}
+
+// Sums up the way anew from a place upward, as far as anything changes.
+fn settle(mem: &mut [u8], way: &[u16], from: usize)
+    requires { ⌜ Settled (now way) from (now mem) ⌝ }
+    ensures { λ _. ⌜ Settles (now (way .entry)) from (now (mem .entry)) (now (mem .exit)) ⌝ }
+{
+    let mut i = from;
+    while 0 < i {
+        i -= 1;
+        if !node::sum_up(mem, way[i] as usize) {
+            return;
+        }
+    }
+}
+
+// Balances the way upward from a place whose tree now stands at `place`, as far as heights change, and settles the rest. The root's place.
+fn rise(mem: &mut [u8], way: &[u16], from: usize, key: u64, place: usize) -> usize
+    requires { ⌜ Risen (now way) key from place (now mem) ⌝ }
+    ensures { λ x. ⌜ Rises (now (way .entry)) key from place x (now (mem .entry)) (now (mem .exit)) ⌝ }
+{
+    let mut i = from;
+    let mut x = place;
+    while 0 < i {
+        i -= 1;
+        let w = way[i] as usize;
+        let n = node::load(mem, w);
+        let left = key < n.split;
+        x = balance_on(mem, w, x, far(left, n.left, n.right), left);
+        if x == w {
+            if node::load(mem, w).height == n.height {
+                settle(mem, way, i);
+                return way[0] as usize;
+            }
+        }
+    }
+    x
+}
+
 // Gives the leaf that the key leads to the end `end`.
 pub fn set_end(mem: &mut [u8], t: usize, key: u64, end: u64)
     requires { ⌜ Alone (now mem) t ⌝ }
     ensures { λ _. ⌜ Sets t key end (now (mem .entry)) (now (mem .exit)) ⌝ }
 {
-    let n = node::load(mem, t);
-    if n.height == 0 {
-        node::save(mem, t, node::leaf(n.lo, end));
-        return;
-    }
-    let left = key < n.split;
-    let x = near(left, n.left, n.right);
-    set_end(mem, x, key, end);
-    mend_on(mem, t, x, far(left, n.left, n.right), left);
+    let mut way = [0u16; LONGEST_WAY];
+    let depth = trace(mem, t, key, &mut way);
+    let leaf = way[depth] as usize;
+    let n = node::load(mem, leaf);
+    node::save(mem, leaf, node::leaf(n.lo, end));
+    settle(mem, &way, depth);
 }
 
 // Puts a leaf at place p into the tree at t, under a new node at place q. The tree's new place.
@@ -106,15 +164,13 @@ pub fn insert(mem: &mut [u8], t: usize, key: u64, end: u64, p: usize, q: usize) 
     requires { ⌜ Ready (now mem) t p q ⌝ }
     ensures { λ r. ⌜ Inserts t key end p q r (now (mem .entry)) (now (mem .exit)) ⌝ }
 {
-    let n = node::load(mem, t);
-    if n.height == 0 {
-        node::save(mem, p, node::leaf(key, end));
-        mend_on(mem, q, p, t, key < n.lo);
-        return q;
-    }
-    let left = key < n.split;
-    let x = insert(mem, near(left, n.left, n.right), key, end, p, q);
-    balance_on(mem, t, x, far(left, n.left, n.right), left)
+    let mut way = [0u16; LONGEST_WAY];
+    let depth = trace(mem, t, key, &mut way);
+    let beside = way[depth] as usize;
+    let n = node::load(mem, beside);
+    node::save(mem, p, node::leaf(key, end));
+    mend_on(mem, q, p, beside, key < n.lo);
+    rise(mem, &way, depth, key, q)
 }
 
 // What a removal leaves: the tree's new place, and the two places that are free again.
@@ -131,22 +187,13 @@ pub fn remove(mem: &mut [u8], t: usize, key: u64) -> Cut
     requires { ⌜ Alone (now mem) t ⌝ }
     ensures { λ c. ⌜ Removes t key c (now (mem .entry)) (now (mem .exit)) ⌝ }
 {
-    let n = node::load(mem, t);
-    let left = key < n.split;
-    let x = near(left, n.left, n.right);
-    let y = far(left, n.left, n.right);
-    if node::load(mem, x).height == 0 {
-        return Cut {
-            root: y,
-            leaf: x,
-            node: t,
-        };
-    }
-    let c = remove(mem, x, key);
-    let root = balance_on(mem, t, c.root, y, left);
-    Cut {
-        root: root,
-        leaf: c.leaf,
-        node: c.node,
-    }
+    let mut way = [0u16; LONGEST_WAY];
+    let depth = trace(mem, t, key, &mut way);
+    let leaf = way[depth] as usize;
+    let above = depth - 1;
+    let node = way[above] as usize;
+    let n = node::load(mem, node);
+    let beside = far(key < n.split, n.left, n.right);
+    let root = rise(mem, &way, above, key, beside);
+    Cut { root, leaf, node }
 }

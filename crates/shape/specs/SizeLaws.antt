@@ -2,10 +2,11 @@
 use mathlib.Core.Path.{_≡_}
 use Prim.Native.Nat.{ℕ, _+_, _≤_}
 use native.Mathlib.Omega.{arith}
 use Rattle.shape.specs.Tree.{Tree, leaf, node, height, size}
+use Rattle.shape.specs.TreeLaws.{size-some}
 use Rattle.shape.specs.PlaceLaws.{size-weight}
 use Rattle.shape.specs.Arrange.{insert, remove, setEnd}
 use Rattle.shape.specs.ChangeLaws.{weight-insert, weight-remove, weight-set}
 
 pub size-insert : (k e p q : ℕ) (t : Tree) → size (insert k e p q t) ≡ size t + 1
 size-insert k e p q t = omega (arith, size-weight t, size-weight (insert k e p q t), weight-insert (λ p k e. 1) (λ q. 0) k e p q t)
@@ -20,3 +21,9 @@ tall-node (node p l r) h = omega arith
 
 pub size-remove : (k : ℕ) (t : Tree) → 2 ≤ size t → size (remove k t) + 1 ≡ size t
 size-remove k t h = omega (arith, size-weight t, size-weight (remove k t), weight-remove (λ p. 1) (λ q. 0) k t (tall-node t h))
+
+-- of any tree
+pub size-less : (k : ℕ) (t : Tree) → size (remove k t) ≤ size t
+unfolding remove
+size-less k (leaf p j e) = omega arith
+size-less k (node p l r) = let h : 2 ≤ size (node p l r) = omega (arith, size-some l, size-some r) in omega (arith, size-remove k (node p l r) h)

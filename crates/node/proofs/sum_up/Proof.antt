@@ -1,0 +1,49 @@
+use borrow.Author.Needs.{needs}
+use Rattle.node.proofs.Sums.{left-in, right-in, sums-none, sums-saved}
+use Rattle.node.proofs.sum_up.Statement.{statement}
+use Rattle.node.proofs.sum_up.Tie as tie
+
+load-requires : tie.Need-load-requires
+load-requires c κs = search needs
+
+load-requires-2 : tie.Need-load-requires-2
+load-requires-2 c κs = rw (c .before .load .ensures) (c .before .before .before .before .pre .left)
+
+load-requires-3 : tie.Need-load-requires-3
+load-requires-3 c κs = rw (c .before .before .before .load .ensures) (c .before .before .before .before .before .before .pre .right)
+
+summed-requires : tie.Need-summed-requires
+summed-requires c κs = search needs
+
+alike-requires : tie.Need-alike-requires
+alike-requires c κs = search needs
+
+same-length : tie.Need-same-length
+same-length c = search needs
+
+returns : tie.Need-returns
+returns c = sums-none _ _ _ _ _ _ (c .before .before .before .before .before .before .before .load .ensures) (c .before .before .before .before .before .load2 .ensures) (c .before .before .before .load3 .ensures) (c .before .before .summed .ensures) (c .before .alike .ensures .0 (c .if1 .taken))
+
+save-sums-requires : tie.Need-save-sums-requires
+save-sums-requires c κs = c .before .before .before .before .before .before .before .before .before .before .before .pre .at
+
+same-length-2 : tie.Need-same-length-2
+same-length-2 c = search needs
+
+returns-2 : tie.Need-returns-2
+returns-2 c = sums-saved _ _ _ _ _ _ (c .before .before .before .before .before .before .before .before .before .before .before .load .ensures) (c .before .before .before .before .before .before .before .before .before .load2 .ensures) (c .before .before .before .before .before .before .before .load3 .ensures) (c .before .before .before .before .before .before .summed .ensures) _ (c .before .before .save-sums .ensures)
+
+pub sum-up-spec : {M : Type 1} → statement M
+sum-up-spec =
+    tie.close
+    (tie.spec
+    load-requires
+    load-requires-2
+    load-requires-3
+    summed-requires
+    alike-requires
+    same-length
+    returns
+    save-sums-requires
+    same-length-2
+    returns-2)

@@ -1,0 +1,15 @@
+use borrow.Author.Needs.{needs}
+use Rattle.node.proofs.summed.Statement.{statement}
+use Rattle.node.proofs.summed.Tie as tie
+
+larger-requires : tie.Need-larger-requires
+larger-requires c κs = search needs
+
+smaller-requires : tie.Need-smaller-requires
+smaller-requires c κs = search needs
+
+returns : tie.Need-returns
+returns c = cc
+
+pub summed-spec : {M : Type 1} → statement M
+summed-spec = tie.close (tie.spec larger-requires smaller-requires returns)

@@ -1,0 +1,85 @@
+-- The steps of noting a way down: one place more, as long as the place reached is no leaf's.
+use mathlib.Core.Path.{_≡_, refl, sym, ap, _∙_}
+use mathlib.Core.Logic.{inl, inr}
+use mathlib.Core.List.{List}
+use Prim.Native.Nat.{ℕ, zero, suc, _+_, _<_, _≤_}
+use native.Mathlib.Decide.{ℕ-discrete}
+use native.Mathlib.Omega.{arith}
+use lib.Dec.{ltb}
+use lib.ListN.{length, getD, set, length-set}
+use lib.Seq.{getD-set-same, getD-set-other}
+use Rattle.shape.specs.Side.{near, far}
+use Rattle.node.specs.declared.Node.{Node}
+use Rattle.node.specs.Layout.{Within, nodeAt}
+use Rattle.tree.specs.Changes.{longestWay, Alone}
+use Rattle.tree.specs.Ways.{Leads, Way}
+use Rattle.node.proofs.Reps.{tall}
+use Rattle.tree.proofs.Setting.{within-alone, down}
+
+-- the way is noted down to the place `at`, d steps below t, where the node n was read
+pub record Tracing (m : List ℕ) (t k : ℕ) (ws0 ws : List ℕ) (at d : ℕ) (n : Node) : Type 0 where
+  pub read : n ≡ nodeAt m at
+  pub alone : Alone m at
+  pub len : length ws ≡ length ws0
+  pub room : nodeAt m at .height + d < length ws
+  pub short : nodeAt m at .height + d < longestWay
+  pub here : getD ws d 0 ≡ at
+  pub first : getD ws 0 0 ≡ t
+  pub leads : (i : ℕ) → i < d → Leads m k (getD ws i 0) (getD ws (suc i) 0)
+
+pub tracing-start : (m : List ℕ) (t k : ℕ) (ws : List ℕ) (n : Node) → nodeAt m t .height < length ws → Alone m t → n ≡ nodeAt m t → Tracing m t k (set ws 0 t) (set ws 0 t) t 0 n
+tracing-start m t k ws n h a e =
+    let f = getD-set-same ws 0 t 0 (omega arith) in
+    record { read = e; alone = a; len = refl; room = omega (arith, length-set ws 0 t); short = omega (arith, a .1 .low, tall (a .1 .stands)); here = f; first = f; leads = λ i l. absurd (omega arith) }
+
+module _ (m : List ℕ) (t k : ℕ) (ws0 ws : List ℕ) (at d : ℕ) (n : Node) (T : Tracing m t k ws0 ws at d n) where
+  pub traced : n .height ≡ 0 → Way m t k d ws
+  traced z =
+      record {
+        long = omega (arith, T .room);
+        short = omega (arith, T .short);
+        first = T .first;
+        leads = T .leads;
+        last = rw (T .here) (sym (ap (λ (y : Node). y .height) (T .read)) ∙ z);
+      }
+
+  module _ (nz : n .height ≡ 0 → ⊥) (x : ℕ) (ex : x ≡ near (ltb k (n .split)) (n .left) (n .right)) where
+    abbrev D : Type 0
+    D = Alone m x × (nodeAt m x .height < nodeAt m at .height)
+
+    below : D
+    below = let d = down m at n (T .read) nz (ltb k (n .split)) x _ ex refl (T .alone) in (d .near-alone, d .lower)
+
+    pub next-in : Within m x
+    next-in = within-alone m x (below .0)
+
+    pub deeper : (d + 1 < length ws) × (d + 1 < longestWay)
+    deeper = omega (arith, T .room, T .short, below .1)
+
+    leads-here : Leads m k at x
+    leads-here = record { inner = λ z. nz (ap (λ (y : Node). y .height) (T .read) ∙ z); to = rw (← T .read) ex }
+
+    pub tracing-next : (n′ : Node) → n′ ≡ nodeAt m x → Tracing m t k ws0 (set ws (d + 1) x) x (d + 1) n′
+    tracing-next n′ e =
+        record {
+          read = e;
+          alone = below .0;
+          len = length-set ws (d + 1) x ∙ T .len;
+          room = omega (arith, T .room, below .1, length-set ws (d + 1) x);
+          short = omega (arith, T .short, below .1);
+          here = getD-set-same ws (d + 1) x 0 (deeper .0);
+          first = getD-set-other ws (d + 1) 0 x 0 (λ q. omega arith) ∙ T .first;
+          leads = λ i l. go i l;
+        }
+      where
+        same : (i : ℕ) → i ≤ d → getD (set ws (d + 1) x) i 0 ≡ getD ws i 0
+        same i l = getD-set-other ws (d + 1) i x 0 (λ q. omega arith)
+
+        go : (i : ℕ) → i < d + 1 → Leads m k (getD (set ws (d + 1) x) i 0) (getD (set ws (d + 1) x) (suc i) 0)
+        go i l = elim (ℕ-discrete i d) [
+          | yes e ↦ let q : suc d ≡ d + 1 = omega arith in rw (e, same d (omega arith), T .here, q, getD-set-same ws (d + 1) x 0 (deeper .0)) leads-here
+          | no q ↦ rw (same i (omega arith), same (suc i) (omega arith)) (T .leads i (omega arith))
+        ]
+
+    pub lower : (n′ : Node) → n′ ≡ nodeAt m x → n′ .height < n .height
+    lower n′ e = omega (arith, ap (λ (y : Node). y .height) e, ap (λ (y : Node). y .height) (T .read), below .1)
