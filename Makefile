@@ -53,3 +53,17 @@ bench-link: lib
 	@rt staticlib link_archive > target/bench-link.log 2>&1 || { tail -5 target/bench-link.log; exit 1; }
 	@rustc -O --edition 2021 -L target/staticlib -l static=door -l static=link_archive bench/link/main.rs -o target/bench-link
 	@target/bench-link
+
+# the core beside a scan, a balanced map, a tree by hand and Horizon, on 004's streams: every table of docs/BENCHMARKS.md
+.PHONY: bench bench-instructions
+BENCH := $(wildcard bench/peers/*.rs) include/curlywether.rs
+
+target/bench-peers: $(BENCH) target/staticlib/libdoor.a
+	@rustc -O -C codegen-units=1 --edition 2021 -L target/staticlib -l static=door bench/peers/main.rs -o target/bench-peers
+
+bench: target/bench-peers
+	@target/bench-peers
+
+# instructions an order, counted by callgrind, and where the core's go (some minutes)
+bench-instructions: target/bench-peers
+	@bench/peers/instructions
