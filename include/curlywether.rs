@@ -68,11 +68,11 @@ pub struct Told {
 
 #[rustfmt::skip]
 extern "C" {
-    fn curlywether_open(memory: *mut u8, bytes: usize, room: u64, record: *const u8, length: usize) -> Opened;
-    fn curlywether_act(memory: *mut u8, bytes: usize, tally: *mut Tally, record: *const u8, length: usize) -> Acted;
-    fn curlywether_run(memory: *mut u8, bytes: usize, tally: *mut Tally, records: *const u8, length: usize,
-                       answers: *mut u64, numbers: usize) -> Ran;
-    fn curlywether_tell(memory: *const u8, bytes: usize) -> Told;
+    pub fn curlywether_open(memory: *mut u8, bytes: usize, room: u64, record: *const u8, length: usize) -> Opened;
+    pub fn curlywether_act(memory: *mut u8, bytes: usize, tally: *mut Tally, record: *const u8, length: usize) -> Acted;
+    pub fn curlywether_run(memory: *mut u8, bytes: usize, tally: *mut Tally, records: *const u8, length: usize,
+                           answers: *mut u64, numbers: usize) -> Ran;
+    pub fn curlywether_tell(memory: *const u8, bytes: usize) -> Told;
 }
 
 // A slice is exactly what the header asks for: a pointer to as many elements as said, lent to one call at a time.
