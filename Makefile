@@ -54,16 +54,38 @@ bench-link: lib
 	@rustc -O --edition 2021 -L target/staticlib -l static=door -l static=link_archive bench/link/main.rs -o target/bench-link
 	@target/bench-link
 
-# the core beside a scan, a balanced map, a tree by hand and Horizon, on 004's streams: every table of docs/BENCHMARKS.md
-.PHONY: bench bench-instructions
-BENCH := $(wildcard bench/peers/*.rs) include/curlywether.rs
+# The core beside a scan, a balanced map, a tree by hand and Horizon, on 004's streams (docs/BENCHMARKS.md). Each prints Markdown tables:
+# make bench              times, voids, visits, losses, bytes (a minute); fails where one that fills voids answers otherwise
+# make bench-instructions instructions an order by callgrind, and where the core's go (some minutes)
+# make bench-worst        the worst booking of each stream, in instructions (some minutes)
+# make bench-docs         all three on an idle machine, put into docs/BENCHMARKS.md, and both plots drawn from it
+.PHONY: bench bench-instructions bench-worst bench-docs bench-plots
+RUSTC := rustc -O -C codegen-units=1 --edition 2021 -L target/staticlib -l static=door
 
-target/bench-peers: $(BENCH) target/staticlib/libdoor.a
-	@rustc -O -C codegen-units=1 --edition 2021 -L target/staticlib -l static=door bench/peers/main.rs -o target/bench-peers
+PEERS := $(wildcard bench/peers/*.rs) include/curlywether.rs target/staticlib/libdoor.a
 
-bench: target/bench-peers
+target/bench-peers: $(PEERS)
+	@$(RUSTC) bench/peers/main.rs -o $@
+
+target/bench-bytes: $(PEERS)
+	@$(RUSTC) bench/peers/bytes.rs -o $@
+
+bench: target/bench-peers target/bench-bytes
 	@target/bench-peers
+	@target/bench-bytes
 
-# instructions an order, counted by callgrind, and where the core's go (some minutes)
 bench-instructions: target/bench-peers
 	@bench/peers/instructions
+
+bench-worst: target/bench-peers
+	@bench/peers/worst
+
+bench-docs:
+	@$(MAKE) -s bench > target/bench.md
+	@$(MAKE) -s bench-instructions >> target/bench.md
+	@$(MAKE) -s bench-worst >> target/bench.md
+	@bench/peers/fill target/bench.md docs/BENCHMARKS.md
+	@$(MAKE) -s bench-plots
+
+bench-plots:
+	@bench/peers/plots docs/BENCHMARKS.md docs

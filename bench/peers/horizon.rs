@@ -1,30 +1,25 @@
-//! Horizon (004, II-B): each channel has one number, from when on it is free for ever. It fills no void, so it loses more bursts and
-//! does far less work: the floor, not a rival.
-use crate::order::{Peer, NOTHING_FITS};
+//! Horizon (004, II-B): each channel has one moment from which it is free for ever; the latest at or before r is taken. It fills no
+//! void, so it loses more bursts and does far less work: the floor, not a rival. Kept as one sorted array of keys.
+use crate::order::{channel_of, key, last_key, Peer, NOTHING_FITS};
 
 pub struct Horizon {
     free: Vec<u64>,
 }
 
 impl Peer for Horizon {
-    const FILLS_VOIDS: bool = false;
-
     fn open(channels: u64, _room: usize) -> Self {
-        Horizon { free: vec![0; channels as usize] }
+        Horizon { free: (0..channels).rev().map(|channel| key(0, channel)).collect() }
     }
 
     fn book(&mut self, r: u64, f: u64) -> Result<u64, u64> {
-        let mut best = None;
-        let mut latest = 0;
-        for (channel, &free) in self.free.iter().enumerate() {
-            if free <= r && (best.is_none() || latest < free) {
-                best = Some(channel);
-                latest = free;
-            }
-        }
-        let channel = best.ok_or(NOTHING_FITS)?;
-        self.free[channel] = f;
-        Ok(channel as u64)
+        let after = self.free.partition_point(|free| *free <= last_key(r));
+        let taken = after.checked_sub(1).ok_or(NOTHING_FITS)?;
+        let channel = channel_of(self.free[taken]);
+        let new = key(f, channel);
+        let place = taken + self.free[after..].partition_point(|free| *free < new);
+        self.free.copy_within(after..place + 1, taken);
+        self.free[place] = new;
+        Ok(channel)
     }
 
     fn sweep(&mut self, _moment: u64) -> u64 {

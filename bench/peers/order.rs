@@ -44,7 +44,6 @@ pub fn channel_of(key: u64) -> u64 {
 
 /// What keeps the voids of one link.
 pub trait Peer {
-    const FILLS_VOIDS: bool = true;
     /// The most voids kept is `room`; each channel begins with the void (0, open end).
     fn open(channels: u64, room: usize) -> Self;
     /// Takes the Min-SV fit of (r, f) and puts its pieces in its place: the channel, or code 7 or 8.

@@ -10,12 +10,13 @@ pub enum Contender {
     Map,
     Avl,
     Horizon,
+    Array,
 }
 
 use Contender::*;
 
+/// The core first, then the peers.
 pub const ALL: [Contender; 5] = [Core, Scan, Map, Avl, Horizon];
-pub const PEERS: [Contender; 4] = [Scan, Map, Avl, Horizon];
 
 impl Contender {
     pub fn name(self) -> &'static str {
@@ -25,11 +26,12 @@ impl Contender {
             Map => "map",
             Avl => "tree",
             Horizon => "horizon",
+            Array => "array",
         }
     }
 
     pub fn named(name: &str) -> Option<Contender> {
-        ALL.into_iter().find(|contender| contender.name() == name)
+        ALL.into_iter().chain([Array]).find(|contender| contender.name() == name)
     }
 
     pub fn fills_voids(self) -> bool {
@@ -81,6 +83,7 @@ pub fn play(contender: Contender, stream: &Stream) -> Played {
         Map => play_peer::<crate::map::Map>(stream),
         Avl => play_peer::<crate::avl::Avl>(stream),
         Horizon => play_peer::<crate::horizon::Horizon>(stream),
+        Array => play_peer::<crate::array::Array>(stream),
     }
 }
 

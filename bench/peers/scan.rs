@@ -17,15 +17,13 @@ pub struct Scan {
 impl Scan {
     /// The channel and the place in its list of the void that fits and starts latest; equal starts: the lowest channel.
     fn seek(&self, r: u64, f: u64) -> Option<(usize, usize)> {
-        let mut best = None;
-        let mut latest = 0;
+        let (mut best, mut latest) = (None, 0);
         for (channel, voids) in self.channels.iter().enumerate() {
-            for (place, void) in voids.iter().enumerate() {
-                if r < void.start {
-                    break;
-                }
-                if f <= void.end && (best.is_none() || latest < void.start) {
-                    best = Some((channel, place));
+            let started = voids.iter().take_while(|void| void.start <= r).count();
+            // the voids of a channel are apart, so only the last that has started can reach f
+            if let Some(void) = voids[..started].last() {
+                if f <= void.end && (latest < void.start || best.is_none()) {
+                    best = Some((channel, started - 1));
                     latest = void.start;
                 }
             }

@@ -10,7 +10,8 @@ pub const ORDERS: usize = 131_072;
 pub const MEAN_LENGTH: f64 = 1_000.0;
 /// 004 names the distribution and not its shape; 1.5 is within what the literature takes for such traffic (the variance is infinite).
 pub const SHAPE: f64 = 1.5;
-pub const RANGES: [u64; 4] = [3_000, 30_000, 100_000, 300_000];
+/// The same for all: the streams of one load and one number of channels differ in their offsets alone.
+const SEED: u64 = 1;
 
 #[derive(Clone)]
 pub struct Stream {
@@ -41,16 +42,14 @@ impl Stream {
 /// OB or OS.
 pub fn record(order: Order) -> Vec<u8> {
     match order {
-        Order::Book { arrival, length } => {
-            [&[0x4F, 0x42], &arrival.to_be_bytes()[2..], &(length as u32).to_be_bytes(), &[0, 0]].concat()
-        }
+        Order::Book { arrival, length } => [&[0x4F, 0x42], &arrival.to_be_bytes()[2..], &(length as u32).to_be_bytes(), &[0, 0]].concat(),
         Order::Sweep { moment } => [&[0x4F, 0x53], &moment.to_be_bytes()[2..]].concat(),
     }
 }
 
 /// 004, IV: lengths and gaps of the orders Pareto, offsets uniform from a tenth of the range to the range.
 pub fn pareto(channels: u64, load: f64, range: u64, orders: usize) -> Stream {
-    let mut random = Random::new(range ^ (load * 1000.0) as u64);
+    let mut random = Random::new(SEED);
     let gap = MEAN_LENGTH / (channels as f64 * load);
     let (mut clock, mut list) = (0.0, Vec::with_capacity(orders));
     for n in 1..=orders {
@@ -97,7 +96,7 @@ pub fn walk_back(orders: usize) -> Stream {
     Stream { name: "walk-back".into(), channels: CHANNELS, room: ROOM, orders: list }
 }
 
-/// How the tables call a stream: "range-load", as in 30000-0.8, or walk-back.
+/// How the tables call a stream: RANGE-LOAD, as in 30000-0.8, or walk-back.
 pub fn named(name: &str) -> Option<Stream> {
     if name == "walk-back" {
         return Some(walk_back(ORDERS / 4));
@@ -106,10 +105,11 @@ pub fn named(name: &str) -> Option<Stream> {
     Some(pareto(CHANNELS, load.parse().ok()?, range.parse().ok()?, ORDERS))
 }
 
-/// 004's streams at both loads, then the one that is worst for walking back.
+/// 004's streams at both loads; one that keeps nearly as many voids as 01's greatest room and is refused nothing under 8; the one that
+/// is worst for walking back.
+pub const NAMES: [&str; 10] =
+    ["3000-0.8", "30000-0.8", "100000-0.8", "300000-0.8", "3000-0.5", "30000-0.5", "100000-0.5", "300000-0.5", "125000-0.8", "walk-back"];
+
 pub fn all() -> Vec<Stream> {
-    let of = |load: f64| RANGES.map(move |range| pareto(CHANNELS, load, range, ORDERS));
-    let mut streams: Vec<Stream> = of(0.8).into_iter().chain(of(0.5)).collect();
-    streams.push(walk_back(ORDERS / 4));
-    streams
+    NAMES.iter().map(|name| named(name).unwrap()).collect()
 }
