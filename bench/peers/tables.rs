@@ -10,10 +10,11 @@ fn time(streams: &[Stream]) {
     let row = |stream: &Stream| {
         let times = rounds(stream, &play::ALL);
         let cells = times.iter().map(|ns| format!("{ns:.0}"));
-        let ratios = times[1..].iter().map(|ns| format!("{:.2}", times[0] / ns));
+        let best = times[1].min(times[2]).min(times[3]);
+        let ratios = times[1..].iter().chain([&best]).map(|ns| format!("{:.2}", times[0] / ns));
         [stream.name.clone()].into_iter().chain(cells).chain(ratios).collect()
     };
-    let head = ["stream", "core", "scan", "map", "tree", "horizon", "core to scan", "to map", "to tree", "to horizon"];
+    let head = ["stream", "core", "scan", "map", "tree", "horizon", "core to scan", "to map", "to tree", "to horizon", "to the best of scan, map, tree"];
     table("time", &head, streams.iter().map(row).collect());
 }
 
