@@ -4,6 +4,7 @@
 # make example            the C program of examples/c over that archive, under valgrind
 # make soak SECONDS=N     the second program against the core, at random, for so long
 # make picture            docs/session.svg, of 01's session
+# make bench              the core beside a scan, a balanced map, a tree by hand and Horizon (docs/BENCHMARKS.md)
 # make test               everything that is checked: ends in `rt ci`'s output, whose last line is the verdict
 .PHONY: all session lib example test soak picture
 FILE ?= crates/session/stdin
