@@ -4,6 +4,7 @@
 # make example            the C program of examples/c over that archive, under valgrind
 # make soak SECONDS=N     the second program against the core, at random, for so long
 # make picture            docs/session.svg, of 01's session
+# make bench              the core beside a scan, a balanced map, a tree by hand and Horizon (docs/BENCHMARKS.md)
 # make test               everything that is checked: ends in `rt ci`'s output, whose last line is the verdict
 .PHONY: all session lib example test soak picture
 FILE ?= crates/session/stdin
@@ -53,3 +54,39 @@ bench-link: lib
 	@rt staticlib link_archive > target/bench-link.log 2>&1 || { tail -5 target/bench-link.log; exit 1; }
 	@rustc -O --edition 2021 -L target/staticlib -l static=door -l static=link_archive bench/link/main.rs -o target/bench-link
 	@target/bench-link
+
+# The core beside a scan, a balanced map, a tree by hand and Horizon, on 004's streams (docs/BENCHMARKS.md). Each prints Markdown tables:
+# make bench              times, voids, visits, losses, bytes (a minute); fails where one that fills voids answers otherwise
+# make bench-instructions instructions an order by callgrind, and where the core's go (some minutes)
+# make bench-worst        the worst booking of each stream, in instructions (some minutes)
+# make bench-docs         all three on an idle machine, put into docs/BENCHMARKS.md, and both plots drawn from it
+.PHONY: bench bench-instructions bench-worst bench-docs bench-plots
+RUSTC := rustc -O -C codegen-units=1 --edition 2021 -L target/staticlib -l static=door
+
+PEERS := $(wildcard bench/peers/*.rs) include/curlywether.rs target/staticlib/libdoor.a
+
+target/bench-peers: $(PEERS)
+	@$(RUSTC) bench/peers/main.rs -o $@
+
+target/bench-bytes: $(PEERS)
+	@$(RUSTC) bench/peers/bytes.rs -o $@
+
+bench: target/bench-peers target/bench-bytes
+	@target/bench-peers
+	@target/bench-bytes
+
+bench-instructions: target/bench-peers
+	@bench/peers/instructions
+
+bench-worst: target/bench-peers
+	@bench/peers/worst
+
+bench-docs:
+	@$(MAKE) -s bench > target/bench.md
+	@$(MAKE) -s bench-instructions >> target/bench.md
+	@$(MAKE) -s bench-worst >> target/bench.md
+	@bench/peers/fill target/bench.md docs/BENCHMARKS.md
+	@$(MAKE) -s bench-plots
+
+bench-plots:
+	@bench/peers/plots docs/BENCHMARKS.md docs

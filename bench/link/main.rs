@@ -2,34 +2,11 @@
 //! whole-link check a void, hostile memories, sweeping a void dropped, and a run of records beside the link's own booking loop.
 use std::time::Instant;
 
-#[repr(C)]
-#[derive(Clone, Copy, Default, PartialEq, Debug)]
-struct Answer {
-    code: u64,
-    channel: u64,
-    line: u64,
-    start: u64,
-    finish: u64,
-    count: u64,
-    dropped: u64,
-}
-
-#[repr(C)]
-struct Opened {
-    code: u64,
-    used: usize,
-}
-
-#[repr(C)]
-struct Ran {
-    code: u64,
-    place: usize,
-    answered: usize,
-}
+#[path = "../../include/curlywether.rs"]
+mod curlywether;
+use curlywether::{Answer, Tally};
 
 extern "C" {
-    fn curlywether_open(mem: *mut u8, len: usize, room: u64, bytes: *const u8, n: usize) -> Opened;
-    fn curlywether_run(mem: *mut u8, len: usize, tally: *mut [u64; 10], bytes: *const u8, n: usize, out: *mut u64, m: usize) -> Ran;
     fn link_book(mem: *mut u8, len: usize, arrival: u64, burst: u64, lines: u64) -> Answer;
     fn link_sweep(mem: *mut u8, len: usize, moment: u64) -> Answer;
     fn link_whole(mem: *const u8, len: usize) -> bool;
@@ -47,10 +24,10 @@ fn put(mem: &mut [u8], i: usize, v: u64) {
 
 /// A link of 16 channels with the widest leap and no line.
 fn opened(room: usize) -> Vec<u8> {
-    let mut mem = vec![0; 80 * room + 248];
+    let mut mem = vec![0; curlywether::need(room as u64)];
     let mut record = vec![0x4F, 0x4C, 16, 0, 0xFF, 0xFF, 0xFF, 0xFF];
     record.extend([0; 6]);
-    let o = unsafe { curlywether_open(mem.as_mut_ptr(), mem.len(), room as u64, record.as_ptr(), record.len()) };
+    let o = curlywether::open(&mut mem, room as u64, &record);
     assert_eq!((o.code, o.used), (0, 14));
     mem
 }
@@ -192,9 +169,9 @@ fn beside(room: usize, n: usize) -> (f64, f64, f64) {
     }
     let mut out = vec![0u64; 7 * n];
     let run = median(|| {
-        let (mut m, mut tally) = (mem.clone(), [0u64; 10]);
+        let (mut m, mut tally) = (mem.clone(), Tally::default());
         let from = Instant::now();
-        let r = unsafe { curlywether_run(m.as_mut_ptr(), m.len(), &mut tally, records.as_ptr(), records.len(), out.as_mut_ptr(), out.len()) };
+        let r = curlywether::run(&mut m, &mut tally, &records, &mut out);
         let ns = from.elapsed().as_nanos() as u64;
         assert_eq!((r.code, r.answered), (0, n));
         ns
@@ -208,7 +185,7 @@ fn beside(room: usize, n: usize) -> (f64, f64, f64) {
         }
         let ns = from.elapsed().as_nanos() as u64;
         for (i, a) in answers.iter().enumerate() {
-            assert_eq!(out[7 * i..7 * i + 7], [a.code, a.channel, a.line, a.start, a.finish, a.count, a.dropped]);
+            assert_eq!(out[7 * i..7 * i + 7], a.numbers());
         }
         ns
     });

@@ -1,37 +1,14 @@
 //! The functions of curlywether.h, called with everything lent placed right before a page that cannot be touched, so that a byte
 //! read or written past what was lent ends the process (and the seed is printed, see `on_death`).
 
+#[path = "../../include/curlywether.rs"]
+mod curlywether;
+
 use crate::model::{Seven, Tally};
+use curlywether::{curlywether_act, curlywether_open, curlywether_run, curlywether_tell};
 use std::sync::atomic::{AtomicU64, Ordering};
 
-#[repr(C)]
-struct Opened {
-    code: u64,
-    used: usize,
-}
-#[repr(C)]
-struct Acted {
-    answer: Seven,
-    used: usize,
-}
-#[repr(C)]
-struct Ran {
-    code: u64,
-    place: usize,
-    answered: usize,
-}
-#[repr(C)]
-struct Told {
-    code: u64,
-    voids: u64,
-}
-
 extern "C" {
-    fn curlywether_open(memory: *mut u8, bytes: usize, room: u64, record: *const u8, length: usize) -> Opened;
-    fn curlywether_act(memory: *mut u8, bytes: usize, tally: *mut u64, record: *const u8, length: usize) -> Acted;
-    fn curlywether_run(memory: *mut u8, bytes: usize, tally: *mut u64, records: *const u8, length: usize, answers: *mut u64, numbers: usize) -> Ran;
-    fn curlywether_tell(memory: *const u8, bytes: usize) -> Told;
-
     fn mmap(at: *mut u8, size: usize, protection: i32, flags: i32, file: i32, offset: i64) -> *mut u8;
     fn mprotect(at: *mut u8, size: usize, protection: i32) -> i32;
     fn signal(number: i32, handler: usize) -> usize;
@@ -104,11 +81,11 @@ impl Desk {
         let at = self.records.put(record);
         let mut lent = [PATTERN; 12];
         lent[1..11].copy_from_slice(tally);
-        let acted = unsafe { curlywether_act(memory.as_mut_ptr(), memory.len(), lent.as_mut_ptr().add(1), at, record.len()) };
+        let acted = unsafe { curlywether_act(memory.as_mut_ptr(), memory.len(), lent.as_mut_ptr().add(1).cast(), at, record.len()) };
         assert!(lent[0] == PATTERN && lent[11] == PATTERN, "written beside the tally");
         tally.copy_from_slice(&lent[1..11]);
         self.untouched(record);
-        (acted.answer, acted.used)
+        (acted.answer.numbers(), acted.used)
     }
 
     /// Code, place, answered, and all the numbers lent (filled with the pattern first).
@@ -118,7 +95,7 @@ impl Desk {
         let mut lent = [PATTERN; 12];
         lent[1..11].copy_from_slice(tally);
         let ran = unsafe {
-            let tally = lent.as_mut_ptr().add(1);
+            let tally = lent.as_mut_ptr().add(1).cast();
             curlywether_run(memory.as_mut_ptr(), memory.len(), tally, at, records.len(), answers, numbers)
         };
         assert!(lent[0] == PATTERN && lent[11] == PATTERN, "written beside the tally");

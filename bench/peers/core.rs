@@ -1,0 +1,55 @@
+//! The core through its archive: a link in lent memory, played by `curlywether_run` on records. Its one check of the memory is in
+//! every figure; how many records a run has is said with each.
+use crate::curlywether::{self, Ran, Tally};
+use crate::order::Reply;
+use crate::stream::Stream;
+
+pub struct Core {
+    pub memory: Vec<u8>,
+    pub tally: Tally,
+    records: Vec<u8>,
+    pub answers: Vec<u64>,
+}
+
+impl Core {
+    pub fn open(stream: &Stream) -> Core {
+        let mut memory = vec![0; curlywether::need(stream.room)];
+        let opened = curlywether::open(&mut memory, stream.room, &stream.opening());
+        assert_eq!(opened.code, 0, "the opening");
+        let answers = vec![u64::MAX; 7 * stream.orders.len()];
+        Core { memory, tally: Tally::default(), records: stream.records(), answers }
+    }
+
+    /// The whole stream as one run.
+    pub fn play(&mut self) {
+        let ran = curlywether::run(&mut self.memory, &mut self.tally, &self.records, &mut self.answers);
+        assert_eq!(ran, Ran { code: 0, place: self.records.len(), answered: self.answers.len() / 7 });
+    }
+
+    /// The stream in runs of so many records.
+    pub fn play_in_runs(&mut self, records: usize) {
+        let mut at = 0;
+        for answers in self.answers.chunks_mut(7 * records) {
+            let ran = curlywether::run(&mut self.memory, &mut self.tally, &self.records[at..], answers);
+            assert!(ran.code == 12 || ran.code == 0);
+            at += ran.place;
+        }
+        assert_eq!(at, self.records.len());
+    }
+
+    pub fn replies(&self) -> Vec<Reply> {
+        let reply = |a: &[u64]| Reply { code: a[0], channel: a[1], start: a[3], finish: a[4], dropped: a[6] };
+        self.answers.chunks(7).map(reply).collect()
+    }
+
+    /// Tree nodes visited by each order.
+    pub fn counts(&self) -> impl Iterator<Item = u64> + '_ {
+        self.answers.chunks(7).map(|answer| answer[5])
+    }
+
+    pub fn voids(&self) -> u64 {
+        let told = curlywether::tell(&self.memory);
+        assert_eq!(told.code, 0, "the memory after the stream");
+        told.voids
+    }
+}
