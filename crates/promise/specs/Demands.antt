@@ -1,8 +1,10 @@
 -- Demands 2 and 3 for memory that only these calls have changed since an accepted opening: these are the theorems that a reader reads first.
 -- What they name is in Session.antt and Answered.antt; `tools/believe` lists every definition behind them and counts its lines.
 use mathlib.Core.Path.{_≡_, ap, subst}
+use mathlib.Core.Logic.{inl, inr}
 use mathlib.Core.List.{List}
 use Prim.Native.Nat.{ℕ}
+use lib.ListN.{length}
 use Rattle.rule.specs.declared.tally.Tally.{Tally}
 use Rattle.rule.specs.Settings.{Settings}
 use Rattle.rule.specs.Order.{Order}
@@ -11,11 +13,13 @@ use Rattle.order.specs.Records.{order, reading}
 use Rattle.node.proofs.Same.{Bytes}
 use Rattle.state.specs.History.{Event, Stretches}
 use Rattle.calls.specs.declared.act.Done.{Done}
+use Rattle.calls.specs.declared.run.RunDone.{RunDone}
 use Rattle.calls.specs.declared.tell.Told.{Told}
-use Rattle.calls.specs.Calls.{Acts, Tells}
-use Rattle.promise.specs.Orders.{orders-one}
+use Rattle.calls.specs.Calls.{Acts, Runs, Tells}
+use Rattle.promise.specs.Orders.{ordersIn, orders-one}
 use Rattle.promise.specs.Session.{Call, acting, Since, Each}
 use Rattle.promise.specs.Answered.{Many, Answered}
+use Rattle.promise.specs.RunLaws.{run-is-orders}
 use Rattle.promise.specs.Memories.{tells-of}
 use Rattle.promise.specs.GapLaws.{begun, standing, standing-means, each-call}
 use Rattle.promise.specs.AnsweredLaws.{answered, many}
@@ -32,6 +36,11 @@ pub order-answered : {g : Settings} {F : ℕ} {past : List Event} {m m′ : List
     → Since g F past m → Bytes bytes → Acts t bytes d m m′ → reading bytes ≡ order used o → Answered g F past o (numbersOf (d .acted .answer))
 order-answered {g} {F} {past} t bytes d used o S b a q =
     subst (λ os. Each (Answered g F) g past os (numbersOf (d .acted .answer))) (orders-one 0 bytes used o q) (each-answered S (acting t bytes d b a)) .0
+
+-- no order of a run is passed over: there are as many in its bytes as "the number of records answered"
+pub every-order : {m m′ : List ℕ} (t : Tally) (bytes out out′ : List ℕ) (x : RunDone) → Runs t bytes x m m′ out out′ → length (ordersIn (x .ran .answered) bytes) ≡ x .ran .answered
+every-order t bytes out out′ x (inl (s, W, H, A)) = rw (A .answered) (run-is-orders s t (length out) bytes .many)
+every-order t bytes out out′ x (inr (n, A)) = rw (A .answer)
 
 -- "tell the number of voids kept, with code 0": m is what a user is told
 pub gaps-told : {g : Settings} {F : ℕ} {past : List Event} {m : List ℕ} (x : Told) → Since g F past m → Tells x m → (x .code ≡ 0) × Many (x .voids) (Stretches F (g .channels) past)

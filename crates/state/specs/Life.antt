@@ -1,7 +1,6 @@
 -- A link and its history, as orders come: what each order and its reply add to what has been accepted.
 -- 01, The booking rule: "What is said of the history supposes memory that only these calls have changed since an accepted opening".
 use mathlib.Core.List.{List, [], _∷_}
-use Prim.Native.Nat.{ℕ}
 use Rattle.rule.specs.Settings.{Settings}
 use Rattle.rule.specs.Fit.{hold, free}
 use Rattle.rule.specs.Order.{Order, booking, sweep}
