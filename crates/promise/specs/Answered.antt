@@ -1,5 +1,5 @@
--- Demands 2 and 3 as the user asks for them: over the gaps that the history leaves, what an order is answered, all seven numbers.
--- No bytes of memory. The seven numbers: code, channel, line, start, finish, count, dropped.
+-- Demands 2 and 3 as the user asks for them: what an order is answered over a set of voids, all seven numbers. No bytes of memory.
+-- The seven numbers: code, channel, line, start, finish, count, dropped.
 use mathlib.Core.Path.{_≡_}
 use mathlib.Core.Logic.{_⊎_, _↔_}
 use mathlib.Core.Bool.{false}
@@ -19,7 +19,6 @@ use Rattle.rule.specs.Order.{Order, booking, sweep}
 use Rattle.rule.specs.Codes.{bookingCode, sweepCode, tooMany}
 use Rattle.shape.specs.Tree.{Tree, Ord, In}
 use Rattle.shape.specs.Visits.{published}
-use Rattle.state.specs.History.{Event, floorOf, Stretches}
 
 -- how many voids a set has: none; or there is one, and n besides it
 abbrev pub Many : (n : ℕ) → Voids → Type 0
@@ -59,8 +58,8 @@ abbrev pub Unless : (code : ℕ) → Type 0 → (numbers : List ℕ) → Type 0
 Unless zero P a = P
 Unless (suc x) P a = a ≡ refusal (suc x) 0
 
--- g, F: the settings and the floor of the opening; the gaps: "the maximal idle stretches of the history with end at or after the floor".
+-- what an order is answered by a link with settings g, at this floor, that keeps the voids W.
 -- A sweep "drops each void with e < T, no others", and has "0 in all but dropped"
-abbrev pub Answered : Settings → (F : ℕ) → List Event → Order → (numbers : List ℕ) → Type 0
-Answered g F past (booking r l p) a = Unless (bookingCode g (floorOf F past) r l p) (Booked (Stretches F (g .channels) past) g (floorOf F past) r l p a) a
-Answered g F past (sweep moment) a = Unless (sweepCode g (floorOf F past) moment) ((d : ℕ) × Many d (λ c s e. Stretches F (g .channels) past c s e × (stays moment e ≡ false)) × (a ≡ 0 ∷ 0 ∷ 0 ∷ 0 ∷ 0 ∷ 0 ∷ d ∷ [])) a
+abbrev pub Answered : Settings → (floor : ℕ) → Voids → Order → (numbers : List ℕ) → Type 0
+Answered g floor W (booking r l p) a = Unless (bookingCode g floor r l p) (Booked W g floor r l p a) a
+Answered g floor W (sweep moment) a = Unless (sweepCode g floor moment) ((d : ℕ) × Many d (λ c s e. W c s e × (stays moment e ≡ false)) × (a ≡ 0 ∷ 0 ∷ 0 ∷ 0 ∷ 0 ∷ 0 ∷ d ∷ [])) a

@@ -28,7 +28,7 @@ use Rattle.state.specs.Act.{seek, choice, bookAs, sweepAs, act}
 use Rattle.state.specs.Sound.{Sound, mostKey}
 use Rattle.state.specs.Range.{InRange}
 use Rattle.state.specs.VoidLaws.{has-voids, length-voids, dropped-voids, no-fit-as, min-sv-as}
-use Rattle.state.specs.History.{Stretches}
+use Rattle.state.specs.History.{floorOf, Stretches}
 use Rattle.state.specs.Life.{Life}
 use Rattle.promise.specs.Answered.{Many, Leaves, Bounded, refusal, Tries, Booked, Unless, Answered}
 use Rattle.promise.specs.Right.{Once}
@@ -139,8 +139,7 @@ module _ (s : State) (S : Sound s) (W : Voids) (f : (c b e : ℕ) → Has (voids
   pub many : Many (size (s .tree)) W
   many = subst (λ n. Many n W) (length-voids (s .tree)) (many-listed (voidsOf (s .tree)) W (once-voids 0 mostKey (s .tree) (S .ordered)) f)
 
-  booking-answered : (r l p : ℕ) → let y = act s (booking r l p) in let a = seven (y .reply) (y .count) in
-      Unless (bookingCode (s .settings) (s .floor) r l p) (Booked W (s .settings) (s .floor) r l p a) a
+  booking-answered : (r l p : ℕ) → let y = act s (booking r l p) in Answered (s .settings) (s .floor) W (booking r l p) (seven (y .reply) (y .count))
   booking-answered r l p = go (bookingCode (s .settings) (s .floor) r l p)
     where
       xs : List Start
@@ -154,8 +153,7 @@ module _ (s : State) (S : Sound s) (W : Voids) (f : (c b e : ℕ) → Has (voids
           (size (s .tree), s .tree, many, leaves, subst (λ n. Tries W (s .tree) (s .settings) (s .floor) (size (s .tree)) l xs 0 0 (seven (y .reply) n)) e t)
       go (suc x) = refl
 
-  sweep-answered : (moment : ℕ) → let y = act s (sweep moment) in let a = seven (y .reply) (y .count) in
-      Unless (sweepCode (s .settings) (s .floor) moment) ((d : ℕ) × Many d (λ c b e. W c b e × (stays moment e ≡ false)) × (a ≡ 0 ∷ 0 ∷ 0 ∷ 0 ∷ 0 ∷ 0 ∷ d ∷ [])) a
+  sweep-answered : (moment : ℕ) → let y = act s (sweep moment) in Answered (s .settings) (s .floor) W (sweep moment) (seven (y .reply) (y .count))
   sweep-answered moment = go (sweepCode (s .settings) (s .floor) moment)
     where
       G : Gone moment (voidsOf (s .tree)) (gone moment (voidsOf (s .tree))) (dropped moment (voidsOf (s .tree)))
@@ -174,28 +172,17 @@ module _ (s : State) (S : Sound s) (W : Voids) (f : (c b e : ℕ) → Has (voids
       )
       go (suc x) = refl
 
+  pub sound-answered : (o : Order) → let y = act s o in Answered (s .settings) (s .floor) W o (seven (y .reply) (y .count))
+  sound-answered (booking r l p) = booking-answered r l p
+  sound-answered (sweep moment) = sweep-answered moment
+
 -- ---- so does a link that orders have made of a fresh one, over the gaps of its history
 pub answered : (g : Settings) (F : ℕ) → inBounds g ≡ true → F ≤ lastMoment → (x : Life) (o : Order) → Reached g F x → InRange o
-    → let y = act (x .state) o in Answered g F (x .past) o (seven (y .reply) (y .count))
-answered g F q h x o R a = go o
-  where
-    s : State
-    s = x .state
-
-    W : Voids
-    W = Stretches F (g .channels) (x .past)
-
-    go : (o : Order) → let y = act s o in Answered g F (x .past) o (seven (y .reply) (y .count))
-    go (booking r l p) =
-        let M = reached-means g F q h x R in
-        let A = seven ((act s (booking r l p)) .reply) ((act s (booking r l p)) .count) in
-        let B = booking-answered s (reached-sound g F q h x R) W (M .gaps) r l p in
-        let C = subst (λ (k : Settings). Unless (bookingCode k (s .floor) r l p) (Booked W k (s .floor) r l p A) A) (M .settings) B in
-        subst (λ k. Unless (bookingCode g k r l p) (Booked W g k r l p A) A) (M .floor) C
-    go (sweep moment) =
-        let M = reached-means g F q h x R in
-        let A = seven ((act s (sweep moment)) .reply) ((act s (sweep moment)) .count) in
-        let P = (d : ℕ) × Many d (λ c b e. W c b e × (stays moment e ≡ false)) × (A ≡ 0 ∷ 0 ∷ 0 ∷ 0 ∷ 0 ∷ 0 ∷ d ∷ []) in
-        let B = sweep-answered s (reached-sound g F q h x R) W (M .gaps) moment in
-        let C = subst (λ (k : Settings). Unless (sweepCode k (s .floor) moment) P A) (M .settings) B in
-        subst (λ k. Unless (sweepCode g k moment) P A) (M .floor) C
+    → let y = act (x .state) o in Answered g (floorOf F (x .past)) (Stretches F (g .channels) (x .past)) o (seven (y .reply) (y .count))
+answered g F q h x o R a =
+    let s = x .state in
+    let y = act s o in
+    let W = Stretches F (g .channels) (x .past) in
+    let M = reached-means g F q h x R in
+    let A = sound-answered s (reached-sound g F q h x R) W (M .gaps) o in
+    subst (λ k. Answered g k W o (seven (y .reply) (y .count))) (M .floor) (subst (λ (k : Settings). Answered k (s .floor) W o (seven (y .reply) (y .count))) (M .settings) A)

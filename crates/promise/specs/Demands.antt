@@ -11,7 +11,7 @@ use Rattle.rule.specs.Order.{Order}
 use Rattle.rule.specs.Answer.{numbersOf}
 use Rattle.order.specs.Records.{order, reading}
 use Rattle.node.proofs.Same.{Bytes}
-use Rattle.state.specs.History.{Event, Stretches}
+use Rattle.state.specs.History.{Event, floorOf, Stretches}
 use Rattle.calls.specs.declared.act.Done.{Done}
 use Rattle.calls.specs.declared.run.RunDone.{RunDone}
 use Rattle.calls.specs.declared.tell.Told.{Told}
@@ -28,14 +28,15 @@ use Rattle.promise.specs.AnsweredLaws.{answered, many}
 -- fits\" is said exactly if nothing fits"; (3) "the count of tree nodes visited is exactly the published search's, and at most
 -- t(8⌊log2 m⌋+1)": of every order of a further call, single or in a run, accepted or refused, all seven numbers
 pub each-answered : {g : Settings} {F : ℕ} {past : List Event} {m m′ numbers : List ℕ} {orders : List Order} → Since g F past m → Call m orders numbers m′
-    → Each (Answered g F) g past orders numbers
-each-answered {g} {F} S c = each-call S (Answered g F) (answered g F (begun S .0) (begun S .1)) c
+    → Each (λ before. Answered g (floorOf F before) (Stretches F (g .channels) before)) g past orders numbers
+each-answered {g} {F} S c = each-call S (λ before. Answered g (floorOf F before) (Stretches F (g .channels) before)) (answered g F (begun S .0) (begun S .1)) c
 
 -- the same of a single order, of which the bytes are read to be o
 pub order-answered : {g : Settings} {F : ℕ} {past : List Event} {m m′ : List ℕ} (t : Tally) (bytes : List ℕ) (d : Done) (used : ℕ) (o : Order)
-    → Since g F past m → Bytes bytes → Acts t bytes d m m′ → reading bytes ≡ order used o → Answered g F past o (numbersOf (d .acted .answer))
+    → Since g F past m → Bytes bytes → Acts t bytes d m m′ → reading bytes ≡ order used o
+    → Answered g (floorOf F past) (Stretches F (g .channels) past) o (numbersOf (d .acted .answer))
 order-answered {g} {F} {past} t bytes d used o S b a q =
-    subst (λ os. Each (Answered g F) g past os (numbersOf (d .acted .answer))) (orders-one 0 bytes used o q) (each-answered S (acting t bytes d b a)) .0
+    subst (λ os. Each (λ before. Answered g (floorOf F before) (Stretches F (g .channels) before)) g past os (numbersOf (d .acted .answer))) (orders-one 0 bytes used o q) (each-answered S (acting t bytes d b a)) .0
 
 -- no order of a run is passed over: there are as many in its bytes as "the number of records answered"
 pub every-order : {m m′ : List ℕ} (t : Tally) (bytes out out′ : List ℕ) (x : RunDone) → Runs t bytes x m m′ out out′ → length (ordersIn (x .ran .answered) bytes) ≡ x .ran .answered

@@ -31,6 +31,7 @@ use Rattle.calls.specs.declared.tell.Told.{Told}
 use Rattle.calls.specs.Opens.{settingsOf, OpensAs, OpensRead, Opens}
 use Rattle.calls.specs.Run.{Stepped, stepOn, runOn, flat}
 use Rattle.calls.specs.Calls.{rowAt, Acts, Runs, Tells}
+use Rattle.calls.proofs.Within.{run-within}
 use Rattle.promise.specs.Orders.{ordersIn, sevens, after}
 use Rattle.promise.specs.RecordLaws.{Fair, reading-fair}
 use Rattle.promise.specs.ReplyLaws.{Apt, act-apt}
@@ -190,6 +191,7 @@ run-door t bytes m m′ out out′ x h p q (inl (s, W, H, A)) =
     let y = runOn s t (length out) bytes in
     let E = run-ends s t (length out) bytes in
     let I = run-is-orders s t (length out) bytes in
+    let within = run-within t bytes x m m′ out out′ (inl (s, W, H, A)) in
     let os = ordersIn (length (y .answers)) bytes in
     let l : length (flat (y .answers)) ≡ 7 * length (y .answers) = ap (λ a. length (flat a)) (I .answers) ∙ flat-length s os ∙ ap (λ n. 7 * n) (I .many) in
     record {
@@ -202,9 +204,9 @@ run-door t bytes m m′ out out′ x h p q (inl (s, W, H, A)) =
           let e : y .state ≡ s = I .state ∙ all-refused-same s os rest u in
           after-same m m′ s W p q H (subst (After m m′) e (A .after));
       place = (omega (arith, A .place, E .inside), (λ k. omega (arith, A .place, E .well (sym (A .code) ∙ k))));
-      answers = omega (arith, A .answered, E .answers);
+      answers = within;
       slice = (
-        rw (A .slice) (omega (arith, length-append (flat (y .answers)) (drop (7 * length (y .answers)) out), l, length-drop (7 * length (y .answers)) out, E .answers)),
+        rw (A .slice) (omega (arith, length-append (flat (y .answers)) (drop (7 * length (y .answers)) out), l, length-drop (7 * length (y .answers)) out, A .answered, within)),
         rw (A .slice, A .answered, ← l) (drop-append-seam (flat (y .answers)) (drop (length (flat (y .answers))) out)),
       );
       past = let e : word m 0 ≡ y .state .settings .room = room-is H ∙ sym (ap (λ g. g .room) (run-settings s t (length out) bytes)) in rw e (A .after .past);

@@ -5,6 +5,7 @@ pub mod Answered
 -- The theorems: demand 1; demands 2 and 3; one outcome; a run is its single orders; the stand-ins; 01's session.
 pub mod Doors
 pub mod Demands
+pub mod Everywhere
 pub mod One
 pub mod Singly
 pub mod Standins

@@ -3,7 +3,7 @@
 use mathlib.Core.Path.{_≡_, refl, sym, _∙_, ap, subst}
 use mathlib.Core.Logic.{_⊎_, inl, inr, _≢_}
 use mathlib.Core.List.{List, [], _∷_}
-use Prim.Native.Nat.{ℕ, zero, suc, _+_, _*_, _-_, _≤_, _<_}
+use Prim.Native.Nat.{ℕ, zero, suc, _+_, _-_, _≤_, _<_}
 use native.Mathlib.Omega.{arith}
 use lib.ListN.{length, getD, drop, length-drop}
 use lib.Seq.{getD-set-same, getD-set-other}
@@ -85,23 +85,22 @@ pub run-is-orders : (s : State) (t : Tally) (room : ℕ) (bytes : List ℕ) → 
 run-is-orders s t room bytes = is-orders (running s t room bytes)
 
 -- ---- where it ends
-pub record Ends (room place : ℕ) (bytes : List ℕ) (x : Ran) : Type 0 where
+pub record Ends (place : ℕ) (bytes : List ℕ) (x : Ran) : Type 0 where
   pub code : (x .code ≡ 0) ⊎ ((x .code ≡ 11) ⊎ (x .code ≡ 12))
   pub well : x .code ≡ 0 → x .place ≡ place + length bytes
   pub inside : (place ≤ x .place) × (x .place ≤ place + length bytes)
-  pub answers : 7 * length (x .answers) ≤ room
 
-ends : {s : State} {t : Tally} {room place : ℕ} {bytes : List ℕ} {x : Ran} → Running s t room place bytes x → Ends room place bytes x
-ends done = record { code = inl refl; well = λ h. omega arith; inside = omega arith; answers = omega arith }
-ends (full g) = record { code = inr (inr refl); well = λ h. absurd (omega arith); inside = omega arith; answers = omega arith }
-ends (stuck g) = record { code = inr (inl refl); well = λ h. absurd (omega arith); inside = omega arith; answers = omega arith }
+ends : {s : State} {t : Tally} {room place : ℕ} {bytes : List ℕ} {x : Ran} → Running s t room place bytes x → Ends place bytes x
+ends done = record { code = inl refl; well = λ h. omega arith; inside = omega arith }
+ends (full g) = record { code = inr (inr refl); well = λ h. absurd (omega arith); inside = omega arith }
+ends (stuck g) = record { code = inr (inl refl); well = λ h. absurd (omega arith); inside = omega arith }
 ends (one {b} {bs} used o g q r) =
     let z = order-fair (b ∷ bs) used o q in
     let E = ends r in
     let l = length-drop used (b ∷ bs) in
-    record { code = E .code; well = λ h. omega (arith, E .well h, l, z); inside = omega (arith, E .inside, l, z); answers = omega (arith, E .answers) }
+    record { code = E .code; well = λ h. omega (arith, E .well h, l, z); inside = omega (arith, E .inside, l, z) }
 
-pub run-ends : (s : State) (t : Tally) (room : ℕ) (bytes : List ℕ) → Ends room 0 bytes (runOn s t room bytes)
+pub run-ends : (s : State) (t : Tally) (room : ℕ) (bytes : List ℕ) → Ends 0 bytes (runOn s t room bytes)
 run-ends s t room bytes = ends (running s t room bytes)
 
 -- ---- orders one after the other leave a sound link sound, and its settings

@@ -68,16 +68,16 @@ held-twice (suc (suc c)) h q = omega arith
 
 pub record ShutOut : Type 1 where
   -- answers 7 to everything
-  pub always-seven : (n : ℕ) → ¬ (Answered two 0 [] (booking 0 5 0) (seven (refused 7) n))
+  pub always-seven : (n : ℕ) → ¬ (Answered two 0 (Stretches 0 2 []) (booking 0 5 0) (seven (refused 7) n))
   -- always gives channel 0, here while channel 0 is booked
-  pub always-channel-0 : (i r f n : ℕ) → ¬ (Answered two 0 (books 0 0 5 ∷ []) (booking 3 1 0) (seven (booked 0 i r f) n))
+  pub always-channel-0 : (i r f n : ℕ) → ¬ (Answered two 0 (Stretches 0 2 (books 0 0 5 ∷ [])) (booking 3 1 0) (seven (booked 0 i r f) n))
   -- books without changing the memory, so that it means what it meant
   pub changes-nothing : (n : ℕ) → (R : Right two 0 [] (booking 0 5 0) (seven (booked 0 0 0 5) n)) → ¬ (Same (R .before) (R .after))
   -- the same in the words of the calls: a booking that is booked has changed the memory
   pub leaves-memory : (m bytes : List ℕ) (t : Tally) (d : Done) (used n : ℕ) → Since two 0 [] m → Bytes bytes → reading bytes ≡ order used (booking 0 5 0)
       → numbersOf (d .acted .answer) ≡ seven (booked 0 0 0 5) n → ¬ (Acts t bytes d m m)
   -- books truly once and afterwards only pretends: its third booking would be booked as its second was
-  pub only-pretends : (c i r f n : ℕ) → ¬ (Answered two 0 (books 1 0 5 ∷ books 0 0 5 ∷ []) (booking 0 5 0) (seven (booked c i r f) n))
+  pub only-pretends : (c i r f n : ℕ) → ¬ (Answered two 0 (Stretches 0 2 (books 1 0 5 ∷ books 0 0 5 ∷ [])) (booking 0 5 0) (seven (booked c i r f) n))
   -- makes up its count: on one tree of one set of gaps, the starts of a booking allow one count
   pub makes-up-count : (W : Voids) (T : Tree) (g : Settings) (floor m l : ℕ) (xs : List Start) (t n : ℕ) (a b : List ℕ)
       → Tries W T g floor m l xs t n a → Tries W T g floor m l xs t n b → getD a 5 0 ≡ getD b 5 0
