@@ -7,6 +7,7 @@ pub mod Doors
 pub mod Demands
 pub mod Everywhere
 pub mod One
+pub mod AnsweredOne
 pub mod Singly
 pub mod Standins
 pub mod InFull

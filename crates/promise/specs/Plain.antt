@@ -21,10 +21,10 @@ use Rattle.rule.specs.Single.{OneEnd}
 use Rattle.state.specs.Exact.{AllStarts, startsOf, NothingFits, TwoPieces}
 use Rattle.state.specs.ExactLaws.{seven-exactly, eight-exactly}
 use Rattle.state.specs.VoidLaws.{chosen-as}
-use Rattle.state.specs.History.{Event, held, floorOf, Stretches}
-use Rattle.state.specs.LongestLaws.{longest-same}
+use Rattle.state.specs.History.{Event, floorOf, Stretches}
 use Rattle.promise.specs.Session.{Call, Since, heard, Each}
 use Rattle.promise.specs.Right.{Right}
+use Rattle.promise.specs.AnsweredOne.{stretches-one}
 use Rattle.promise.specs.Gaps.{each-right}
 
 -- the gap from .. to of the channel answered is the one taken: Min-SV at the first of the starts xs that has a fit
@@ -83,10 +83,7 @@ module _ (g : Settings) (F : ℕ) (past : List Event) (r l p : ℕ) (a : List �
   M = R .before
 
   one : OneEnd (Has (M .voids))
-  one c s e e′ i j =
-      let A = R .means .gaps c s e .0 i in
-      let B = R .means .gaps c s e′ .0 j in
-      longest-same F (held past) c s e s e′ s (A .1) (B .1) (omega arith) (A .1 .some) (omega arith) (B .1 .some) .1
+  one c s e e′ i j = stretches-one F (g .channels) past c s e e′ (R .means .gaps c s e .0 i) (R .means .gaps c s e′ .0 j)
 
   same-code : bookingCode (M .settings) (M .floor) r l p ≡ judged
   same-code = ap (λ s. bookingCode s (M .floor) r l p) (R .means .settings) ∙ ap (λ f. bookingCode g f r l p) (R .means .floor)
