@@ -1,41 +1,65 @@
--- Demand 2 as the user asks for it, naming the history and the answer only: no tree, no bytes of memory.
--- 01, The booking rule: "Among the voids that fit, the one with the latest start is taken"; code 7: "nothing fits at any start tried".
+-- Demands 2 and 3 as the user asks for them: what an order is answered over a set of voids, all seven numbers. No bytes of memory.
+-- The seven numbers: code, channel, line, start, finish, count, dropped.
 use mathlib.Core.Path.{_≡_}
-use mathlib.Core.Logic.{_↔_}
+use mathlib.Core.Logic.{_⊎_, _↔_}
+use mathlib.Core.Bool.{false}
 use mathlib.Core.List.{List, [], _∷_}
-use Prim.Native.Nat.{ℕ, _+_}
-use lib.ListN.{getD, take, drop}
+use Prim.Native.Nat.{ℕ, zero, suc, _+_, _*_, _≤_}
+use Rattle.numbers.specs.Case.{pick}
+use Rattle.numbers.specs.Powers.{Log2}
+use Rattle.rule.specs.Moments.{openEnd}
 use Rattle.rule.specs.Settings.{Settings}
 use Rattle.rule.specs.Fit.{hold, free}
 use Rattle.rule.specs.Starts.{Start, starts}
 use Rattle.rule.specs.Voids.{Voids}
-use Rattle.rule.specs.Choice.{NoFit, taken, Chosen}
+use Rattle.rule.specs.Choice.{NoFit, MinSV}
+use Rattle.rule.specs.Kept.{stays}
+use Rattle.rule.specs.Key.{perTick, startOf, channelOf}
 use Rattle.rule.specs.Order.{Order, booking, sweep}
-use Rattle.rule.specs.Codes.{bookingCode}
-use Rattle.state.specs.Exact.{AllStarts}
-use Rattle.state.specs.History.{Event, floorOf, Stretches}
-use Rattle.promise.specs.Session.{heard}
+use Rattle.rule.specs.Codes.{bookingCode, sweepCode, tooMany}
+use Rattle.shape.specs.Tree.{Tree, Ord, In}
+use Rattle.shape.specs.Visits.{published}
 
--- the gap from .. to of the channel answered is the one taken: Min-SV at the first of the starts xs that has a fit.
--- The seven numbers: code, channel, line, start, finish, count, dropped
-pub record Fitted (W : Voids) (h l : ℕ) (xs : List Start) (numbers : List ℕ) : Type 0 where
-  pub from : ℕ
-  pub to : ℕ
-  pub chosen : Chosen W h xs (taken (getD numbers 2 0) (getD numbers 3 0) (getD numbers 1 0) from to)
-  pub finish : getD numbers 4 0 ≡ getD numbers 3 0 + l
+-- how many voids a set has: none; or there is one, and n besides it
+abbrev pub Many : (n : ℕ) → Voids → Type 0
+Many zero W = (c s e : ℕ) → ¬ (W c s e)
+Many (suc n) W = (c : ℕ) × (s : ℕ) × (e : ℕ) × W c s e × Many n (λ c′ s′ e′. W c′ s′ e′ × (¬ ((c′ ≡ c) × (s′ ≡ s) × (e′ ≡ e))))
 
--- a booking of arrival r, length l and permitted lines p, over the gaps W of a link with settings g at this floor
-pub record Booked (W : Voids) (g : Settings) (floor r l p : ℕ) (numbers : List ℕ) : Type 0 where
-  pub accepted : getD numbers 0 0 ≡ 0 → Fitted W (hold g l) l (starts (g .delays) r (hold g l) p) numbers
-  -- refused by none of the codes 3 to 6, and no gap on any channel fits at any start tried
-  pub seven : (getD numbers 0 0 ≡ 7) ↔ ((bookingCode g floor r l p ≡ 0) × AllStarts (λ b. NoFit W b (free b (hold g l))) (starts (g .delays) r (hold g l) p))
+-- "The voids are the leaves of a binary tree, from left to right by rising start, equal starts by falling channel"
+abbrev pub Leaves : Voids → Tree → Type 0
+Leaves W T = Ord 0 (openEnd * perTick) T × ((c s e : ℕ) → W c s e ↔ ((p : ℕ) × (k : ℕ) × In p k e T × (channelOf k ≡ c) × (startOf k ≡ s)))
 
--- g, F: the settings and the floor of the opening
-abbrev pub Answered : Settings → (F : ℕ) → List Event → Order → (numbers : List ℕ) → Type 0
-Answered g F past (booking r l p) a = Booked (Stretches F (g .channels) past) g (floorOf F past) r l p a
-Answered g F past (sweep moment) a = Unit {0}
+-- (3) "at most t(8⌊log2 m⌋+1)": n visits for t starts tried, with m voids kept
+abbrev pub Bounded : (m t n : ℕ) → Type 0
+Bounded m t n = (w : ℕ) → Log2 m w → n ≤ t * (8 * w + 1)
 
--- each order of a call, over the history before it
-abbrev pub AllAnswered : Settings → (F : ℕ) → List Event → List Order → (numbers : List ℕ) → Type 0
-AllAnswered g F past [] a = Unit {0}
-AllAnswered g F past (o ∷ os) a = Answered g F past o (take 7 a) × AllAnswered g F (heard g o (take 7 a) past) os (drop 7 a)
+-- "A refusal has 0 in all but code and count"
+abbrev pub refusal : (code count : ℕ) → List ℕ
+refusal x n = x ∷ 0 ∷ 0 ∷ 0 ∷ 0 ∷ n ∷ 0 ∷ []
+
+-- a booking of length l at the starts that are left, t having been tried with n visits: m voids W are kept, the leaves of the tree T.
+-- None left: 7, "nothing fits at any start tried". "Trying stops at the first start that has a fit"; there Min-SV is taken, and it is 8 if
+-- "the void taken leaves two pieces and the room is full", else the booking
+abbrev pub Tries : Voids → Tree → Settings → (floor m l : ℕ) → List Start → (t n : ℕ) → (numbers : List ℕ) → Type 0
+Tries W T g floor m l [] t n a = (a ≡ refusal 7 n) × Bounded m t n
+Tries W T g floor m l (x ∷ xs) t n a =
+    let r = x .moment in
+    let f = free r (hold g l) in
+    let k = n + (published r f T) .visits in
+    (NoFit W r f × Tries W T g floor m l xs (suc t) k a)
+    ⊎ ((c : ℕ) × (s : ℕ) × (e : ℕ) × MinSV W r f c s e × Bounded m (suc t) k × (a ≡ pick (tooMany g floor m l r s e) (refusal 8 k) (0 ∷ c ∷ x .line ∷ r ∷ (r + l) ∷ k ∷ 0 ∷ [])))
+
+-- a booking that none of the codes 3 to 6 refuses
+abbrev pub Booked : Voids → Settings → (floor r l p : ℕ) → (numbers : List ℕ) → Type 0
+Booked W g floor r l p a = (m : ℕ) × (T : Tree) × Many m W × Leaves W T × Tries W T g floor m l (starts (g .delays) r (hold g l) p) 0 0 a
+
+-- refused by the code, with count 0, unless that is 0
+abbrev pub Unless : (code : ℕ) → Type 0 → (numbers : List ℕ) → Type 0
+Unless zero P a = P
+Unless (suc x) P a = a ≡ refusal (suc x) 0
+
+-- what an order is answered by a link with settings g, at this floor, that keeps the voids W.
+-- A sweep "drops each void with e < T, no others", and has "0 in all but dropped"
+abbrev pub Answered : Settings → (floor : ℕ) → Voids → Order → (numbers : List ℕ) → Type 0
+Answered g floor W (booking r l p) a = Unless (bookingCode g floor r l p) (Booked W g floor r l p a) a
+Answered g floor W (sweep moment) a = Unless (sweepCode g floor moment) ((d : ℕ) × Many d (λ c s e. W c s e × (stays moment e ≡ false)) × (a ≡ 0 ∷ 0 ∷ 0 ∷ 0 ∷ 0 ∷ 0 ∷ d ∷ [])) a

@@ -3,23 +3,25 @@
 use mathlib.Core.Path.{_≡_, refl, sym, _∙_, ap, subst}
 use mathlib.Core.Logic.{_⊎_, inl, inr, _↔_, _≢_}
 use mathlib.Core.List.{List, [], _∷_, _++_}
-use Prim.Native.Nat.{ℕ, _*_, _≤_, _<_}
+use Prim.Native.Nat.{ℕ, _*_, _≤_}
 use native.Mathlib.Omega.{arith}
 use lib.ListN.{length, getD, drop, length-append, length-drop}
 use lib.Seq.{drop-append-seam}
+use Rattle.numbers.specs.Case.{case-eq}
 use Rattle.numbers.specs.Words.{word}
 use Rattle.rule.specs.declared.tally.Tally.{Tally}
 use Rattle.rule.specs.Answer.{Reply, booked, swept, refused, seven, numbersOf}
-use Rattle.rule.specs.Counts.{rows, rowOf, raised}
+use Rattle.rule.specs.Counts.{rowOf, raised}
 use Rattle.rule.specs.Order.{Order, booking, sweep}
 use Rattle.order.specs.Records.{Reading, unread, opening, order, reading}
 use Rattle.node.proofs.Same.{Bytes}
 use Rattle.state.specs.State.{State}
+use Rattle.state.specs.Sound.{Sound}
 use Rattle.state.specs.Act.{act}
 use Rattle.state.specs.OpenLaws.{fresh-settings}
 use Rattle.memory.specs.Header.{need}
 use Rattle.memory.proofs.Parts.{past-none}
-use Rattle.memory.specs.Holds.{Whole, Past, After}
+use Rattle.memory.specs.Holds.{Holds, Past, After}
 use Rattle.opening.proofs.Same.{broken, small, fine, answer}
 use Rattle.opening.proofs.Same
 use Rattle.calls.specs.declared.open.Opened.{Opened}
@@ -28,12 +30,12 @@ use Rattle.calls.specs.declared.run.RunDone.{RunDone}
 use Rattle.calls.specs.declared.tell.Told.{Told}
 use Rattle.calls.specs.Opens.{settingsOf, OpensAs, OpensRead, Opens}
 use Rattle.calls.specs.Run.{Stepped, stepOn, runOn, flat}
-use Rattle.calls.specs.Calls.{Acts, Runs, Tells}
+use Rattle.calls.specs.Calls.{rowAt, Acts, Runs, Tells}
+use Rattle.calls.proofs.Within.{run-within}
 use Rattle.promise.specs.Orders.{ordersIn, sevens, after}
 use Rattle.promise.specs.RecordLaws.{Fair, reading-fair}
-use Rattle.promise.specs.ReplyLaws.{Apt, act-apt, row-apt}
-use Rattle.promise.specs.RunLaws.{run-is-orders, run-ends}
-use Rattle.promise.specs.SoundSteps.{step-settings, step-refused, run-settings}
+use Rattle.promise.specs.ReplyLaws.{Apt, act-apt}
+use Rattle.promise.specs.RunLaws.{run-is-orders, run-ends, step-settings, step-refused, run-settings}
 use Rattle.promise.specs.Sevens.{AllRefused, flat-length, all-refused-same}
 use Rattle.promise.specs.One.{whole-run}
 use Rattle.promise.specs.Memories.{after-same, room-is}
@@ -66,10 +68,15 @@ open-door room bytes m m′ o h = go (reading bytes) (reading-fair bytes)
             record { code = rw (u .0) (inl refl); refused = λ k. absurd (k (rw (u .0))); past = rw g at (u .1 .past) }
 
 -- ---- act
+-- "one count for bookings, one for sweeps": the row of an order that is accepted; that of code x is x - 1 (`rowAt`)
+abbrev pub rowIf : Order → ℕ
+rowIf (booking r l p) = 0
+rowIf (sweep moment) = 1
+
 pub record ActDoor (t : Tally) (bytes : List ℕ) (d : Done) (m m′ : List ℕ) : Type 0 where
   pub code : (d .acted .answer .code ≡ 0) ⊎ ((2 ≤ d .acted .answer .code) × (d .acted .answer .code ≤ 11))
   -- "2: the lent memory is not a whole link"
-  pub whole : (d .acted .answer .code ≡ 2) ↔ (Whole m → ⊥)
+  pub whole : (d .acted .answer .code ≡ 2) ↔ (¬ ((s : State) × Sound s × Holds m s))
   -- "Every code but 0 leaves link memory as it stood before that record, byte for byte."
   pub refused : d .acted .answer .code ≢ 0 → m′ ≡ m
   -- "A refusal has 0 in all but code and count"
@@ -77,8 +84,8 @@ pub record ActDoor (t : Tally) (bytes : List ℕ) (d : Done) (m m′ : List ℕ)
   pub used : d .acted .used ≤ length bytes
   -- "Bytes used are .. 0 under 1, 2 and 11"; "Codes 1, 2, 11 and 12 raise none."
   pub unread : (d .acted .answer .code ≡ 2) ⊎ (d .acted .answer .code ≡ 11) → (d .acted .used ≡ 0) × (d .tally ≡ t)
-  -- "An order acted on raises exactly one count"
-  pub tally : (d .tally ≡ t) ⊎ ((i : ℕ) × (i < rows) × (d .tally ≡ raised t i))
+  -- "An order acted on raises exactly one count": under every other code an order was read, and the row of its answer is raised
+  pub tally : d .acted .answer .code ≢ 2 → d .acted .answer .code ≢ 11 → (n : ℕ) × (o : Order) × (reading bytes ≡ order n o) × (d .tally ≡ raised t (rowAt (d .acted .answer .code) (rowIf o)))
   pub past : Past (need (word m 0)) m m′
 
 -- what a step on a sound link says
@@ -87,13 +94,22 @@ record StepDoor (t : Tally) (bytes : List ℕ) (x : Stepped) : Type 0 where
   numbers : getD (x .numbers) 0 0 ≢ 0 → x .numbers ≡ getD (x .numbers) 0 0 ∷ 0 ∷ 0 ∷ 0 ∷ 0 ∷ getD (x .numbers) 5 0 ∷ 0 ∷ []
   used : x .used ≤ length bytes
   unread : getD (x .numbers) 0 0 ≡ 11 → (x .used ≡ 0) × (x .tally ≡ t)
-  tally : (x .tally ≡ t) ⊎ ((i : ℕ) × (i < rows) × (x .tally ≡ raised t i))
+  tally : getD (x .numbers) 0 0 ≢ 11 → (n : ℕ) × (o : Order) × (reading bytes ≡ order n o) × (x .tally ≡ raised t (rowAt (getD (x .numbers) 0 0) (rowIf o)))
+
+-- the row that a reply raises, by its code
+row-at : (o : Order) (y : Reply) (n : ℕ) → Apt o y → rowOf y ≡ rowAt (getD (seven y n) 0 0) (rowIf o)
+row-at (booking r l p) (booked c i b f) n a = refl
+row-at (booking r l p) (swept d) n a = absurd a
+row-at (booking r l p) (refused x) n a = elim (case-eq x 0) [ inl y ↦ absurd (omega (arith, a, y .0)) | inr y ↦ rw (y .1) ]
+row-at (sweep moment) (booked c i b f) n a = absurd a
+row-at (sweep moment) (swept d) n a = refl
+row-at (sweep moment) (refused x) n a = elim (case-eq x 0) [ inl y ↦ absurd (omega (arith, a, y .0)) | inr y ↦ rw (y .1) ]
 
 step-door : (s : State) (t : Tally) (bytes : List ℕ) → StepDoor t bytes (stepOn s t (reading bytes))
 step-door s t bytes = go (reading bytes) refl (reading-fair bytes)
   where
     not : (x : ℕ) → x ≡ 11 → StepDoor t bytes (stepOn s t (unread x))
-    not x e = record { code = inr (omega arith); numbers = λ k. refl; used = omega arith; unread = λ k. (refl, refl); tally = inl refl }
+    not x e = record { code = inr (omega arith); numbers = λ k. refl; used = omega arith; unread = λ k. (refl, refl); tally = λ k. absurd (k e) }
 
     go : (z : Reading) → reading bytes ≡ z → Fair bytes z → StepDoor t bytes (stepOn s t z)
     go (unread x) q f = not x f
@@ -106,7 +122,7 @@ step-door s t bytes = go (reading bytes) refl (reading-fair bytes)
           numbers = rw e (zeros y ((act s o) .count));
           used = f .1;
           unread = rw e (λ k. absurd (never o′ y (rw e at a) k));
-          tally = inr (rowOf ((act s o) .reply), row-apt o′ ((act s o) .reply) a, refl);
+          tally = λ k. (n, o, q, ap (raised t) (row-at o ((act s o) .reply) ((act s o) .count) (act-apt s o)));
         }
           where
             codes : (o′ : Order) (y : Reply) → Apt o′ y → let k = getD (seven y ((act s o) .count)) 0 0 in (k ≡ 0) ⊎ ((3 ≤ k) × (k ≤ 11))
@@ -141,7 +157,7 @@ act-door t bytes m m′ d h x y (inl (s, W, H, A)) =
       numbers = λ k. A .numbers ∙ D .numbers (λ z. k (c ∙ z)) ∙ rw (c, n);
       used = rw (A .used) (D .used);
       unread = λ k. rw (A .used, A .tally) (elim k [ inl j ↦ absurd (elim (D .code) [ inl i ↦ omega (arith, c, i, j) | inr i ↦ omega (arith, c, i, j) ]) | inr j ↦ D .unread (sym c ∙ j) ]);
-      tally = rw (A .tally) (D .tally);
+      tally = λ k j. let z = D .tally (λ i. j (c ∙ i)) in (z .0, z .1, z .2, A .tally ∙ z .3 ∙ ap (λ i. raised t (rowAt i (rowIf (z .1)))) (sym c));
       past = let e : word m 0 ≡ (stepOn s t (reading bytes)) .after .settings .room = room-is H ∙ sym (ap (λ g. g .room) (step-settings s t (reading bytes))) in rw e (A .after .past);
     }
 act-door t bytes m m′ d h x y (inr (n, A)) =
@@ -153,14 +169,14 @@ act-door t bytes m m′ d h x y (inr (n, A)) =
       numbers = λ k. A .answer .numbers ∙ rw (at 0, at 5);
       used = omega (arith, A .answer .used);
       unread = λ k. (A .answer .used, A .answer .tally);
-      tally = inl (A .answer .tally);
+      tally = λ k. absurd (k (at 0));
       past = rw (A .same) (past-none (need (word m 0)) m);
     }
 
 -- ---- run. out, out′: the answer slice before and after
 pub record RunDoor (t : Tally) (bytes : List ℕ) (x : RunDone) (m m′ out out′ : List ℕ) : Type 0 where
   pub code : (x .ran .code ≡ 0) ⊎ ((x .ran .code ≡ 2) ⊎ ((x .ran .code ≡ 11) ⊎ (x .ran .code ≡ 12)))
-  pub whole : (x .ran .code ≡ 2) ↔ (Whole m → ⊥)
+  pub whole : (x .ran .code ≡ 2) ↔ (¬ ((s : State) × Sound s × Holds m s))
   -- "Every code but 0 leaves link memory as it stood before that record": a run none of whose answers has code 0 changes nothing
   pub refused : AllRefused (x .ran .answered) out′ → m′ ≡ m
   -- the place is "its length" at its end
@@ -175,6 +191,7 @@ run-door t bytes m m′ out out′ x h p q (inl (s, W, H, A)) =
     let y = runOn s t (length out) bytes in
     let E = run-ends s t (length out) bytes in
     let I = run-is-orders s t (length out) bytes in
+    let within = run-within t bytes x m m′ out out′ (inl (s, W, H, A)) in
     let os = ordersIn (length (y .answers)) bytes in
     let l : length (flat (y .answers)) ≡ 7 * length (y .answers) = ap (λ a. length (flat a)) (I .answers) ∙ flat-length s os ∙ ap (λ n. 7 * n) (I .many) in
     record {
@@ -187,9 +204,9 @@ run-door t bytes m m′ out out′ x h p q (inl (s, W, H, A)) =
           let e : y .state ≡ s = I .state ∙ all-refused-same s os rest u in
           after-same m m′ s W p q H (subst (After m m′) e (A .after));
       place = (omega (arith, A .place, E .inside), (λ k. omega (arith, A .place, E .well (sym (A .code) ∙ k))));
-      answers = omega (arith, A .answered, E .answers);
+      answers = within;
       slice = (
-        rw (A .slice) (omega (arith, length-append (flat (y .answers)) (drop (7 * length (y .answers)) out), l, length-drop (7 * length (y .answers)) out, E .answers)),
+        rw (A .slice) (omega (arith, length-append (flat (y .answers)) (drop (7 * length (y .answers)) out), l, length-drop (7 * length (y .answers)) out, A .answered, within)),
         rw (A .slice, A .answered, ← l) (drop-append-seam (flat (y .answers)) (drop (length (flat (y .answers))) out)),
       );
       past = let e : word m 0 ≡ y .state .settings .room = room-is H ∙ sym (ap (λ g. g .room) (run-settings s t (length out) bytes)) in rw e (A .after .past);
@@ -205,7 +222,7 @@ run-door t bytes m m′ out out′ x h p q (inr (n, A)) = record {
 }
 
 -- "an empty run on a whole link ends well with nothing written"
-pub empty-run : (t : Tally) (m m′ out out′ : List ℕ) (x : RunDone) → Whole m → Bytes m → Bytes m′ → Runs t [] x m m′ out out′
+pub empty-run : (t : Tally) (m m′ out out′ : List ℕ) (x : RunDone) → ((s : State) × Sound s × Holds m s) → Bytes m → Bytes m′ → Runs t [] x m m′ out out′
     → (x ≡ record { tally = t; ran = record { code = 0; place = 0; answered = 0 } }) × (m′ ≡ m) × (out′ ≡ out)
 empty-run t m m′ out out′ x w p q (inl (s, W, H, A)) = (whole-run x ∙ rw (A .tally, A .code, A .place, A .answered), after-same m m′ s W p q H (A .after), A .slice)
 empty-run t m m′ out out′ x w p q (inr (n, A)) = absurd (n w)
@@ -213,7 +230,7 @@ empty-run t m m′ out out′ x w p q (inr (n, A)) = absurd (n w)
 -- ---- tell: "the number of voids kept, with code 0, or 0 voids with code 2"
 pub record TellDoor (x : Told) (m : List ℕ) : Type 0 where
   pub code : (x .code ≡ 0) ⊎ (x .code ≡ 2)
-  pub whole : (x .code ≡ 2) ↔ (Whole m → ⊥)
+  pub whole : (x .code ≡ 2) ↔ (¬ ((s : State) × Sound s × Holds m s))
   pub refused : x .code ≢ 0 → x .voids ≡ 0
 
 pub tell-door : (m : List ℕ) (x : Told) → Tells x m → TellDoor x m

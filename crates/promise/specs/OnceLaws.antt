@@ -58,7 +58,7 @@ without x (y ∷ ys) (inr h) =
     }
 
 -- a list without repeats is no longer than one that has all its voids
-once-most : (xs ys : List Void) → Once xs → ((c s e : ℕ) → Has xs c s e → Has ys c s e) → length xs ≤ length ys
+pub once-most : (xs ys : List Void) → Once xs → ((c s e : ℕ) → Has xs c s e → Has ys c s e) → length xs ≤ length ys
 once-most [] ys a f = omega arith
 once-most (x ∷ xs) ys a f =
     let W = without x ys (f (x .channel) (x .start) (x .end) (inl (refl, refl, refl))) in

@@ -24,7 +24,6 @@ use Rattle.calls.specs.Opens.{settingsOf, OpensAs, OpensRead, Opens}
 use Rattle.calls.specs.Run.{stepOn, runOn}
 use Rattle.calls.specs.Calls.{StepsTo, ActsNot, Acts, RunsTo, RunsNot, Runs, Tells}
 use Rattle.promise.specs.Memories.{gives-both, after-one}
-use Rattle.promise.specs.SoundSteps.{step-sound, run-sound}
 
 -- the seven numbers fix the answer
 whole-answer : (a : Answer) → a ≡ record { code = a .code; channel = a .channel; line = a .line; start = a .start; finish = a .finish; count = a .count; dropped = a .dropped }
@@ -68,19 +67,19 @@ one-open room bytes m m′ m″ o o′ x y = go (reading bytes)
             (u .0 ∙ sym (v .0), one-after m m′ m″ (fresh (settingsOf room p) (p .floor)) (placed-fresh (settingsOf room p) (p .floor) h) x y (u .1) (v .1))
 
 -- ---- act
-pub one-act : (t : Tally) (bytes m m′ m″ : List ℕ) (d d′ : Done) → Bytes bytes → Bytes m′ → Bytes m″ → Acts t bytes d m m′ → Acts t bytes d′ m m″ → (d ≡ d′) × (m′ ≡ m″)
-one-act t bytes m m′ m″ d d′ h x y a b =
+pub one-act : (t : Tally) (bytes m m′ m″ : List ℕ) (d d′ : Done) → Bytes m′ → Bytes m″ → Acts t bytes d m m′ → Acts t bytes d′ m m″ → (d ≡ d′) × (m′ ≡ m″)
+one-act t bytes m m′ m″ d d′ x y a b =
     gives-both m (λ s. StepsTo (stepOn s t (reading bytes)) d m m′) (λ s. StepsTo (stepOn s t (reading bytes)) d′ m m″) (ActsNot t d m m′) (ActsNot t d′ m m″) _ a b
     (λ s W H u v. (
       done-one d d′ (u .numbers ∙ sym (v .numbers)) (u .used ∙ sym (v .used)) (u .tally ∙ sym (v .tally)),
-      after-one m m′ m″ _ (step-sound s t bytes h W) x y (u .after) (v .after),
+      after-one m m′ m″ _ (u .sound) x y (u .after) (v .after),
     ))
     (λ u v. (done-one d d′ (u .answer .numbers ∙ sym (v .answer .numbers)) (u .answer .used ∙ sym (v .answer .used)) (u .answer .tally ∙ sym (v .answer .tally)), u .same ∙ sym (v .same)))
 
 -- ---- run: the answer slice too
-pub one-run : (t : Tally) (bytes m m′ m″ out out′ out″ : List ℕ) (x x′ : RunDone) → Bytes bytes → Bytes m′ → Bytes m″
+pub one-run : (t : Tally) (bytes m m′ m″ out out′ out″ : List ℕ) (x x′ : RunDone) → Bytes m′ → Bytes m″
     → Runs t bytes x m m′ out out′ → Runs t bytes x′ m m″ out out″ → (x ≡ x′) × (m′ ≡ m″) × (out′ ≡ out″)
-one-run t bytes m m′ m″ out out′ out″ x x′ h p q a b =
+one-run t bytes m m′ m″ out out′ out″ x x′ p q a b =
     gives-both m (λ s. RunsTo (runOn s t (length out) bytes) x m m′ out out′) (λ s. RunsTo (runOn s t (length out) bytes) x′ m m″ out out″)
     (RunsNot t x m m′ out out′) (RunsNot t x′ m m″ out out″) _ a b
     (λ s W H u v.
@@ -89,7 +88,7 @@ one-run t bytes m m′ m″ out out′ out″ x x′ h p q a b =
     let g : x .ran .place ≡ x′ .ran .place = u .place ∙ sym (v .place) in
     let k : x .ran .answered ≡ x′ .ran .answered = u .answered ∙ sym (v .answered) in (
       whole-run x ∙ rw (e, f, g, k),
-      after-one m m′ m″ _ (run-sound s t (length out) bytes h W) p q (u .after) (v .after),
+      after-one m m′ m″ _ (u .sound) p q (u .after) (v .after),
       u .slice ∙ sym (v .slice),
     ))
     (λ u v. (u .answer ∙ sym (v .answer), u .same ∙ sym (v .same), u .slice ∙ sym (v .slice)))

@@ -1,6 +1,6 @@
 -- What a record of bytes can hold: a number of six bytes is a moment, an order uses some of its bytes, and what cannot be read is code 11.
 -- 01, Records: "Each record begins with a two-byte mark. Numbers are most significant byte first."
-use mathlib.Core.Path.{_≡_, refl, subst}
+use mathlib.Core.Path.{_≡_, subst}
 use mathlib.Core.Logic.{inl, inr}
 use mathlib.Core.List.{List, [], _∷_}
 use Prim.Native.Nat.{ℕ, zero, suc, _+_, _*_, _^_, _≤_, _<_}
@@ -13,7 +13,9 @@ use Rattle.numbers.specs.Digits.{goesOn, digits, field}
 use Rattle.numbers.proofs.DigitLaws.{grows}
 use Rattle.rule.specs.Moments.{lastMoment}
 use Rattle.rule.specs.Order.{Order, booking, sweep}
-use Rattle.order.specs.Records.{Reading, unread, opening, order, Mark, OL, OB, OC, OS, unknown, mark, whole, linesOf, openingOf, bookingOf, compactOf, sweepOf, byMark, reading}
+use Rattle.order.specs.Records.{Reading, unread, opening, order, Mark, OL, OB, OC, OS, unknown, mark, whole, linesOf, openingOf, bookingOf, compactOf, sweepOf, byMark, reading, usedBy}
+use Rattle.order.specs.Kinds.{Kind, kind}
+use Rattle.order.proofs.Alone.{inside}
 use Rattle.node.proofs.Same.{Bytes}
 use Rattle.state.specs.Range.{InRange}
 
@@ -45,26 +47,40 @@ moment-field i s h =
     let g = lt-of-lt-of-le (goes-below t 0 0 (bytes-take 6 (drop i s) (bytes-drop i s h)) (omega arith)) (pow-mono l) in
     omega (arith, g)
 
--- ---- what is read of bytes
+-- ---- what is read of bytes: a floor or a sweep's moment is a moment
+abbrev Ranged : Reading → Type 0
+Ranged (unread x) = Unit {0}
+Ranged (opening n p) = p .floor ≤ lastMoment
+Ranged (order n o) = InRange o
+
+whole-ranged : (n : ℕ) (bytes : List ℕ) (x : Reading) → Ranged x → Ranged (whole n bytes x)
+whole-ranged n bytes x r = elim (case-le n (length bytes)) [ inl y ↦ rw (y .1) r | inr y ↦ rw (y .1) tt ]
+
+mark-ranged : (m : Mark) (bytes : List ℕ) → Bytes bytes → Ranged (byMark m bytes)
+unfolding byMark openingOf bookingOf compactOf sweepOf
+mark-ranged OL bytes h = whole-ranged (14 + 4 * linesOf bytes) bytes _ (moment-field 8 bytes h)
+mark-ranged OB bytes h = whole-ranged 14 bytes (order 14 (booking (field 2 6 bytes) (field 8 4 bytes) (field 12 2 bytes))) tt
+mark-ranged OC bytes h = whole-ranged 10 bytes (order 10 (booking (field 2 6 bytes) (field 8 2 bytes) 0)) tt
+mark-ranged OS bytes h = whole-ranged 8 bytes (order 8 (sweep (field 2 6 bytes))) (moment-field 2 bytes h)
+mark-ranged unknown bytes h = tt
+
+ranged : (bytes : List ℕ) → Bytes bytes → Ranged (reading bytes)
+unfolding reading
+ranged bytes h = whole-ranged 2 bytes (byMark (mark (field 0 2 bytes)) bytes) (mark-ranged (mark (field 0 2 bytes)) bytes h)
+
+-- with what the reader's own laws say: no code but 11, and an order has bytes and lies inside
 abbrev pub Fair : List ℕ → Reading → Type 0
 Fair bytes (unread x) = x ≡ 11
-Fair bytes (opening n p) = (Bytes bytes → p .floor ≤ lastMoment)
+Fair bytes (opening n p) = Bytes bytes → p .floor ≤ lastMoment
 Fair bytes (order n o) = (1 ≤ n) × (n ≤ length bytes) × (Bytes bytes → InRange o)
 
-whole-fair : (n : ℕ) (bytes : List ℕ) (x : Reading) → (n ≤ length bytes → Fair bytes x) → Fair bytes (whole n bytes x)
-whole-fair n bytes x f = elim (case-le n (length bytes)) [ inl y ↦ rw (y .1) (f (y .0)) | inr y ↦ rw (y .1) refl ]
-
-mark-fair : (m : Mark) (bytes : List ℕ) → Fair bytes (byMark m bytes)
-unfolding byMark openingOf bookingOf compactOf sweepOf
-mark-fair OL bytes = whole-fair (14 + 4 * linesOf bytes) bytes _ (λ l h. moment-field 8 bytes h)
-mark-fair OB bytes = whole-fair 14 bytes (order 14 (booking (field 2 6 bytes) (field 8 4 bytes) (field 12 2 bytes))) (λ l. (omega arith, l, λ h. tt))
-mark-fair OC bytes = whole-fair 10 bytes (order 10 (booking (field 2 6 bytes) (field 8 2 bytes) 0)) (λ l. (omega arith, l, λ h. tt))
-mark-fair OS bytes = whole-fair 8 bytes (order 8 (sweep (field 2 6 bytes))) (λ l. (omega arith, l, λ h. moment-field 2 bytes h))
-mark-fair unknown bytes = refl
-
 pub reading-fair : (bytes : List ℕ) → Fair bytes (reading bytes)
-unfolding reading
-reading-fair bytes = whole-fair 2 bytes (byMark (mark (field 0 2 bytes)) bytes) (λ l. mark-fair (mark (field 0 2 bytes)) bytes)
+reading-fair bytes = go (reading bytes) (kind bytes) (inside bytes) (ranged bytes)
+  where
+    go : (z : Reading) → Kind z → usedBy z ≤ length bytes → (Bytes bytes → Ranged z) → Fair bytes z
+    go (unread x) k u r = k
+    go (opening n p) k u r = r
+    go (order n o) k u r = (omega arith, u, r)
 
 pub order-fair : (bytes : List ℕ) (n : ℕ) (o : Order) → reading bytes ≡ order n o → (1 ≤ n) × (n ≤ length bytes) × (Bytes bytes → InRange o)
 order-fair bytes n o q = subst (Fair bytes) q (reading-fair bytes)

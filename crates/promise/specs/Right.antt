@@ -1,10 +1,10 @@
--- Demand 2 in words: the answer to an order is the rule's over the gaps that the history leaves. Names the history and the answer only.
+-- Demand 2 by the rule: an answer is the rule's (`Rule`) between what the history makes of a link before the order and after it. Nobody has
+-- to believe these words: Answered.antt says what is answered, and this is what follows for one who thinks in meanings.
 -- 01, The booking rule: "the voids kept are the maximal idle stretches of the history with end at or after the floor".
 use mathlib.Core.Path.{_≡_}
 use mathlib.Core.Logic.{_↔_}
 use mathlib.Core.List.{List, [], _∷_}
 use Prim.Native.Nat.{ℕ}
-use lib.ListN.{take, drop}
 use Rattle.rule.specs.Settings.{Settings}
 use Rattle.rule.specs.Voids.{Void, Has, Meaning}
 use Rattle.rule.specs.Order.{Order}
@@ -36,8 +36,3 @@ pub record Right (g : Settings) (F : ℕ) (past : List Event) (o : Order) (numbe
   pub means : Means g F past before
   pub rule : Rule before o reply after
   pub leaves : Means g F (heard g o numbers past) after
-
--- and so on for each order of a call
-abbrev pub AllRight : Settings → (F : ℕ) → List Event → List Order → (numbers : List ℕ) → Type 0
-AllRight g F past [] a = Unit {0}
-AllRight g F past (o ∷ os) a = Right g F past o (take 7 a) × AllRight g F (heard g o (take 7 a) past) os (drop 7 a)

@@ -3,7 +3,7 @@
 use mathlib.Core.Path.{_≡_, refl, sym, _∙_, ap, subst}
 use mathlib.Core.Logic.{_⊎_, inl, inr, _≢_}
 use mathlib.Core.List.{List, [], _∷_}
-use Prim.Native.Nat.{ℕ, zero, suc, _+_, _*_, _-_, _≤_, _<_}
+use Prim.Native.Nat.{ℕ, zero, suc, _+_, _-_, _≤_, _<_}
 use native.Mathlib.Omega.{arith}
 use lib.ListN.{length, getD, drop, length-drop}
 use lib.Seq.{getD-set-same, getD-set-other}
@@ -21,9 +21,10 @@ use Rattle.state.specs.Sound.{Sound}
 use Rattle.state.specs.SoundLaws.{act-sound}
 use Rattle.state.specs.SettingsLaws.{act-settings}
 use Rattle.state.specs.Range.{AllInRange}
-use Rattle.calls.specs.Run.{Ran, ended, answered, onward, runFrom, runOn}
-use Rattle.promise.specs.Orders.{ordersIn, sevens, after, tallied}
+use Rattle.calls.specs.Run.{stepOn, Ran, ended, answered, onward, runFrom, runOn}
+use Rattle.promise.specs.Orders.{ordersIn, orders-one, sevens, after, tallied}
 use Rattle.promise.specs.ReplyLaws.{act-apt, row-apt}
+use Rattle.promise.specs.Sevens.{coded-same}
 use Rattle.promise.specs.RecordLaws.{bytes-drop, Fair, reading-fair, order-fair}
 
 -- ---- the ways in which a run goes on: it is at its end, lacks room, cannot read, or acts on an order
@@ -69,37 +70,37 @@ is-orders : {s : State} {t : Tally} {room place : ℕ} {bytes : List ℕ} {x : R
 is-orders done = record { many = refl; answers = refl; state = refl; tally = refl; range = λ h. tt }
 is-orders (full g) = record { many = refl; answers = refl; state = refl; tally = refl; range = λ h. tt }
 is-orders (stuck g) = record { many = refl; answers = refl; state = refl; tally = refl; range = λ h. tt }
-is-orders (one {s} {b} {bs} used o g q r) =
+is-orders (one {s} {b} {bs} {x} used o g q r) =
     let I = is-orders r in
+    let e = orders-one (length (x .answers)) (b ∷ bs) used o q in
     record {
-      many = rw q (ap suc (I .many));
-      answers = rw q (ap (λ l. seven ((act s o) .reply) ((act s o) .count) ∷ l) (I .answers));
-      state = rw q (I .state);
-      tally = rw q (I .tally);
-      range = rw q (λ h. (order-fair (b ∷ bs) used o q .2 h, I .range (bytes-drop used (b ∷ bs) h)));
+      many = rw e (ap suc (I .many));
+      answers = rw e (ap (λ l. seven ((act s o) .reply) ((act s o) .count) ∷ l) (I .answers));
+      state = rw e (I .state);
+      tally = rw e (I .tally);
+      range = rw e (λ h. (order-fair (b ∷ bs) used o q .2 h, I .range (bytes-drop used (b ∷ bs) h)));
     }
 
 pub run-is-orders : (s : State) (t : Tally) (room : ℕ) (bytes : List ℕ) → IsOrders s t bytes (runOn s t room bytes)
 run-is-orders s t room bytes = is-orders (running s t room bytes)
 
 -- ---- where it ends
-pub record Ends (room place : ℕ) (bytes : List ℕ) (x : Ran) : Type 0 where
+pub record Ends (place : ℕ) (bytes : List ℕ) (x : Ran) : Type 0 where
   pub code : (x .code ≡ 0) ⊎ ((x .code ≡ 11) ⊎ (x .code ≡ 12))
   pub well : x .code ≡ 0 → x .place ≡ place + length bytes
   pub inside : (place ≤ x .place) × (x .place ≤ place + length bytes)
-  pub answers : 7 * length (x .answers) ≤ room
 
-ends : {s : State} {t : Tally} {room place : ℕ} {bytes : List ℕ} {x : Ran} → Running s t room place bytes x → Ends room place bytes x
-ends done = record { code = inl refl; well = λ h. omega arith; inside = omega arith; answers = omega arith }
-ends (full g) = record { code = inr (inr refl); well = λ h. absurd (omega arith); inside = omega arith; answers = omega arith }
-ends (stuck g) = record { code = inr (inl refl); well = λ h. absurd (omega arith); inside = omega arith; answers = omega arith }
+ends : {s : State} {t : Tally} {room place : ℕ} {bytes : List ℕ} {x : Ran} → Running s t room place bytes x → Ends place bytes x
+ends done = record { code = inl refl; well = λ h. omega arith; inside = omega arith }
+ends (full g) = record { code = inr (inr refl); well = λ h. absurd (omega arith); inside = omega arith }
+ends (stuck g) = record { code = inr (inl refl); well = λ h. absurd (omega arith); inside = omega arith }
 ends (one {b} {bs} used o g q r) =
     let z = order-fair (b ∷ bs) used o q in
     let E = ends r in
     let l = length-drop used (b ∷ bs) in
-    record { code = E .code; well = λ h. omega (arith, E .well h, l, z); inside = omega (arith, E .inside, l, z); answers = omega (arith, E .answers) }
+    record { code = E .code; well = λ h. omega (arith, E .well h, l, z); inside = omega (arith, E .inside, l, z) }
 
-pub run-ends : (s : State) (t : Tally) (room : ℕ) (bytes : List ℕ) → Ends room 0 bytes (runOn s t room bytes)
+pub run-ends : (s : State) (t : Tally) (room : ℕ) (bytes : List ℕ) → Ends 0 bytes (runOn s t room bytes)
 run-ends s t room bytes = ends (running s t room bytes)
 
 -- ---- orders one after the other leave a sound link sound, and its settings
@@ -110,6 +111,23 @@ after-sound s (o ∷ os) W a = after-sound ((act s o) .after) os (act-sound s W 
 pub after-settings : (s : State) (os : List Order) → (after s os) .settings ≡ s .settings
 after-settings s [] = refl
 after-settings s (o ∷ os) = after-settings ((act s o) .after) os ∙ act-settings s o
+
+-- ---- what a record leaves: the settings, and under every code but 0 the link itself
+module _ (s : State) (t : Tally) where
+  pub step-settings : (z : Reading) → (stepOn s t z) .after .settings ≡ s .settings
+  step-settings (unread x) = refl
+  step-settings (opening n p) = refl
+  step-settings (order n o) = act-settings s o
+
+  pub step-refused : (z : Reading) → getD ((stepOn s t z) .numbers) 0 0 ≢ 0 → (stepOn s t z) .after ≡ s
+  step-refused (unread x) h = refl
+  step-refused (opening n p) h = refl
+  step-refused (order n o) h = coded-same s o h
+
+  pub run-settings : (room : ℕ) (bytes : List ℕ) → (runOn s t room bytes) .state .settings ≡ s .settings
+  run-settings room bytes =
+      let I = run-is-orders s t room bytes in
+      ap (λ (u : State). u .settings) (I .state) ∙ after-settings s (ordersIn (length ((runOn s t room bytes) .answers)) bytes)
 
 -- ---- the tally: before each order no count is at its top
 abbrev pub Below : Tally → Type 0

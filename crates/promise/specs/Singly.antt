@@ -23,7 +23,7 @@ use Rattle.calls.specs.declared.act.Done.{Done}
 use Rattle.calls.specs.declared.run.RunDone.{RunDone}
 use Rattle.calls.specs.Run.{stepOn, runOn, flat}
 use Rattle.calls.specs.Calls.{StepsTo, Acts, Runs}
-use Rattle.promise.specs.Orders.{ordersIn, sevens, after, tallied}
+use Rattle.promise.specs.Orders.{ordersIn, orders-one, sevens, after, tallied}
 use Rattle.promise.specs.RecordLaws.{bytes-drop, order-fair}
 use Rattle.promise.specs.RunLaws.{run-is-orders, after-sound, after-settings, Below, below-all, sum-rises}
 use Rattle.promise.specs.Memories.{acts-on, after-one}
@@ -59,7 +59,8 @@ singles (more {t} {t′} {bytes} {m} {m₁} {m′} {answers} d a u r) h s W H =
         let I = further (bytes-drop (d .acted .used) bytes h) (y .after) (act-sound s W o (z .2 h)) (B .after .holds) in
         let J = subst (λ k. Singles (y .after) (d .tally) (ordersIn (length answers) (drop k bytes)) m₁ answers t′ m′) (B .used) I in
         let os = ordersIn (length answers) (drop n bytes) in
-        rw q (record {
+        let e = orders-one (length answers) bytes n o q in
+        rw e (record {
           range = (z .2 h, J .range);
           numbers = ap (λ l. l ∷ answers) (B .numbers) ∙ ap (λ l. seven (y .reply) (y .count) ∷ l) (J .numbers);
           tally = J .tally ∙ ap (λ k. tallied (y .after) k os) (B .tally);

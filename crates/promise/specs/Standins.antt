@@ -1,44 +1,58 @@
 -- The stand-ins of 01, each against the demand that shuts it out.
 -- 01, How much a promise has to say: "Try these stand-ins and see them rejected".
 use mathlib.Core.Path.{_≡_, refl, sym, _∙_, ap}
-use mathlib.Core.Logic.{inl, inr}
+use mathlib.Core.Logic.{_⊎_, inl, inr}
+use mathlib.Core.Bool.{Bool, true, false}
 use mathlib.Core.List.{List, [], _∷_}
-use Prim.Native.Nat.{ℕ, zero, suc, _<_}
+use Prim.Native.Nat.{ℕ, zero, suc, _+_, _<_}
 use native.Mathlib.Omega.{arith}
-use Rattle.numbers.specs.Case.{case-eq}
+use lib.ListN.{getD}
+use Rattle.numbers.specs.Case.{pick}
 use Rattle.rule.specs.Moments.{openEnd}
 use Rattle.rule.specs.Settings.{Settings}
 use Rattle.rule.specs.Fit.{hold, free}
 use Rattle.rule.specs.Starts.{Start}
 use Rattle.rule.specs.Kept.{least}
 use Rattle.rule.specs.Voids.{Voids, Same}
-use Rattle.rule.specs.Choice.{MinSV, taken, Chosen}
-use Rattle.rule.specs.Order.{Order, booking, sweep}
+use Rattle.rule.specs.Choice.{NoFit, MinSV}
+use Rattle.rule.specs.Order.{booking}
 use Rattle.rule.specs.Answer.{booked, refused, seven, numbersOf}
-use Rattle.rule.specs.Codes.{bookingCode}
+use Rattle.rule.specs.Codes.{tooMany}
 use Rattle.rule.specs.declared.tally.Tally.{Tally}
 use Rattle.order.specs.Records.{order, reading}
+use Rattle.shape.specs.Tree.{Tree}
+use Rattle.shape.specs.Visits.{published}
 use Rattle.node.proofs.Same.{Bytes}
-use Rattle.state.specs.State.{State}
-use Rattle.state.specs.Ticks.{on}
-use Rattle.state.specs.History.{books, held, Stretches}
+use Rattle.state.specs.History.{on, books, held, Stretches}
 use Rattle.calls.specs.declared.act.Done.{Done}
 use Rattle.calls.specs.Calls.{Acts}
-use Rattle.promise.specs.Orders.{ordersIn}
-use Rattle.promise.specs.Session.{Accepted, acting, none, heardAll}
+use Rattle.promise.specs.Orders.{ordersIn, orders-one}
+use Rattle.promise.specs.Session.{acting, Since, heardAll}
 use Rattle.promise.specs.Gaps.{same-memory}
-use Rattle.promise.specs.Visits.{CountOf}
 use Rattle.promise.specs.Right.{Right}
-use Rattle.promise.specs.Answered.{Answered}
+use Rattle.promise.specs.Answered.{refusal, Tries, Answered}
 
 -- two channels and no lines, opened at 0
 abbrev two : Settings
 two = record { channels = 2; delays = []; leap = 1000; room = 8 }
 
--- a booking of a link without lines has one start
-one-start : (W : Voids) (h i r c s e : ℕ) (x : Start) → Chosen W h (x ∷ []) (taken i r c s e) → (r ≡ x .moment) × MinSV W r (free r h) c s e
-one-start W h i r c s e x (inl a) = (a .1, a .2)
-one-start W h i r c s e x (inr a) = absurd (a .1)
+-- what is answered of a void that is taken: 8, or the booking on its channel
+picked : (b : Bool) (k c i r f : ℕ) (a : List ℕ) → a ≡ pick b (refusal 8 k) (0 ∷ c ∷ i ∷ r ∷ f ∷ k ∷ 0 ∷ []) → (getD a 0 0 ≡ 8) ⊎ ((getD a 0 0 ≡ 0) × (getD a 1 0 ≡ c))
+picked true k c i r f a q = inl (ap (λ b. getD b 0 0) q)
+picked false k c i r f a q = inr (ap (λ b. getD b 0 0) q, ap (λ b. getD b 1 0) q)
+
+-- ---- a booking of a link without lines has one start: booked, the channel answered has the void that Min-SV takes there; 7, none fits there
+module _ (W : Voids) (T : Tree) (g : Settings) (floor m l : ℕ) (x : Start) (t n : ℕ) (a : List ℕ) where
+  abbrev visited : ℕ
+  visited = n + (published (x .moment) (free (x .moment) (hold g l)) T) .visits
+
+  one-start : Tries W T g floor m l (x ∷ []) t n a → getD a 0 0 ≡ 0 → (s : ℕ) × (e : ℕ) × MinSV W (x .moment) (free (x .moment) (hold g l)) (getD a 1 0) s e
+  one-start (inl y) z = absurd (omega (arith, z, ap (λ b. getD b 0 0) (y .1 .0)))
+  one-start (inr (c, s, e, M, B, q)) z = elim (picked (tooMany g floor m l (x .moment) s e) visited c (x .line) (x .moment) (x .moment + l) a q) [ inl h ↦ absurd (omega (arith, z, h)) | inr h ↦ (s, e, rw (h .1) M) ]
+
+  none-fits : Tries W T g floor m l (x ∷ []) t n a → getD a 0 0 ≡ 7 → NoFit W (x .moment) (free (x .moment) (hold g l))
+  none-fits (inl y) z = y .0
+  none-fits (inr (c, s, e, M, B, q)) z = elim (picked (tooMany g floor m l (x .moment) s e) visited c (x .line) (x .moment) (x .moment + l) a q) [ inl h ↦ absurd (omega (arith, z, h)) | inr h ↦ absurd (omega (arith, z, h .0)) ]
 
 -- at the opening channel 0 is idle for ever
 idle-at-first : Stretches 0 2 [] 0 0 openEnd
@@ -52,53 +66,62 @@ held-twice zero h q = omega (arith, q)
 held-twice (suc zero) h q = omega (arith, q)
 held-twice (suc (suc c)) h q = omega arith
 
-pub record ShutOut : Type 0 where
+pub record ShutOut : Type 1 where
   -- answers 7 to everything
-  pub always-seven : (n : ℕ) → ¬ (Answered two 0 [] (booking 0 5 0) (seven (refused 7) n))
+  pub always-seven : (n : ℕ) → ¬ (Answered two 0 (Stretches 0 2 []) (booking 0 5 0) (seven (refused 7) n))
   -- always gives channel 0, here while channel 0 is booked
-  pub always-channel-0 : (i r f n : ℕ) → ¬ (Answered two 0 (books 0 0 5 ∷ []) (booking 3 1 0) (seven (booked 0 i r f) n))
+  pub always-channel-0 : (i r f n : ℕ) → ¬ (Answered two 0 (Stretches 0 2 (books 0 0 5 ∷ [])) (booking 3 1 0) (seven (booked 0 i r f) n))
   -- books without changing the memory, so that it means what it meant
   pub changes-nothing : (n : ℕ) → (R : Right two 0 [] (booking 0 5 0) (seven (booked 0 0 0 5) n)) → ¬ (Same (R .before) (R .after))
   -- the same in the words of the calls: a booking that is booked has changed the memory
-  pub leaves-memory : (m bytes : List ℕ) (t : Tally) (d : Done) (used n : ℕ) → Accepted two 0 m → Bytes bytes → reading bytes ≡ order used (booking 0 5 0)
+  pub leaves-memory : (m bytes : List ℕ) (t : Tally) (d : Done) (used n : ℕ) → Since two 0 [] m → Bytes bytes → reading bytes ≡ order used (booking 0 5 0)
       → numbersOf (d .acted .answer) ≡ seven (booked 0 0 0 5) n → ¬ (Acts t bytes d m m)
   -- books truly once and afterwards only pretends: its third booking would be booked as its second was
-  pub only-pretends : (c i r f n : ℕ) → ¬ (Answered two 0 (books 1 0 5 ∷ books 0 0 5 ∷ []) (booking 0 5 0) (seven (booked c i r f) n))
-  -- makes up its count
-  pub makes-up-count : (s : State) (o : Order) (n k : ℕ) → CountOf s o n → CountOf s o k → n ≡ k
+  pub only-pretends : (c i r f n : ℕ) → ¬ (Answered two 0 (Stretches 0 2 (books 1 0 5 ∷ books 0 0 5 ∷ [])) (booking 0 5 0) (seven (booked c i r f) n))
+  -- makes up its count: on one tree of one set of gaps, the starts of a booking allow one count
+  pub makes-up-count : (W : Voids) (T : Tree) (g : Settings) (floor m l : ℕ) (xs : List Start) (t n : ℕ) (a b : List ℕ)
+      → Tries W T g floor m l xs t n a → Tries W T g floor m l xs t n b → getD a 5 0 ≡ getD b 5 0
 
 pub shut-out : ShutOut
 unfolding hold least on
 shut-out = record {
-  always-seven = λ n R. R .seven .0 refl .1 .0 0 0 openEnd idle-at-first (omega arith);
+  always-seven = λ n R. none-fits _ (R .1) two 0 (R .0) 5 _ 0 0 (seven (refused 7) n) (R .4) refl 0 0 openEnd idle-at-first (omega arith);
   always-channel-0 = λ i r f n R.
-      let B = R .accepted refl in
-      let z = one-start (Stretches 0 2 (books 0 0 5 ∷ [])) 1 i r 0 (B .from) (B .to) _ (B .chosen) in
-      let u = z .1 .void .1 .idle 3 (omega (arith, z .0, z .1 .fits)) (omega (arith, z .0, z .1 .fits)) in
+      let z = one-start _ (R .1) two 0 (R .0) 1 _ 0 0 (seven (booked 0 i r f) n) (R .4) refl in
+      let u = z .2 .void .1 .idle 3 (omega (arith, z .2 .fits)) (omega (arith, z .2 .fits)) in
       omega (arith, u .2);
   changes-nothing = λ n R S.
       let u = R .leaves .gaps 0 0 openEnd .0 (S .voids 0 0 openEnd .1 (R .means .gaps 0 0 openEnd .1 idle-at-first)) in
       let v = u .1 .idle 0 (omega arith) (omega arith) in
       omega (arith, v .2);
   leaves-memory = λ m bytes t d used n A b q e a.
-      let z = same-memory A none (acting t bytes d b a) refl in
-      let h : heardAll two (ordersIn 1 bytes) (numbersOf (d .acted .answer)) [] ≡ books 0 0 5 ∷ [] = ap (λ a. heardAll two (ordersIn 1 bytes) a []) e ∙ rw q in
+      let z = same-memory A (acting t bytes d b a) in
+      let o = orders-one 0 bytes used (booking 0 5 0) q in
+      let h : heardAll two (ordersIn 1 bytes) (numbersOf (d .acted .answer)) [] ≡ books 0 0 5 ∷ [] =
+      ap (λ a. heardAll two (ordersIn 1 bytes) a []) e ∙ ap (λ os. heardAll two os (seven (booked 0 0 0 5) n) []) o in
       let u = z .2 .gaps 0 0 openEnd .0 (z .1 .gaps 0 0 openEnd .1 idle-at-first) in
       let v : Stretches 0 2 (books 0 0 5 ∷ []) 0 0 openEnd = rw h at u in
       let w = v .1 .idle 0 (omega arith) (omega arith) in
       omega (arith, w .2);
   only-pretends = λ c i r f n R.
-      let past = books 1 0 5 ∷ books 0 0 5 ∷ [] in
-      let B = R .accepted refl in
-      let z = one-start (Stretches 0 2 past) 5 i r c (B .from) (B .to) _ (B .chosen) in
-      let u = z .1 .void .1 .idle 0 (omega (arith, z .0, z .1 .fits)) (omega (arith, z .0, z .1 .fits)) in
-      held-twice c (z .1 .void .0) (u .2);
-  makes-up-count = counts;
+      let z = one-start _ (R .1) two 0 (R .0) 5 _ 0 0 (seven (booked c i r f) n) (R .4) refl in
+      let u = z .2 .void .1 .idle 0 (omega (arith, z .2 .fits)) (omega (arith, z .2 .fits)) in
+      held-twice c (z .2 .void .0) (u .2);
+  makes-up-count = one-count;
 }
   where
-    counts : (s : State) (o : Order) (n k : ℕ) → CountOf s o n → CountOf s o k → n ≡ k
-    counts s (booking r l p) n k a b = elim (case-eq (bookingCode (s .settings) (s .floor) r l p) 0) [
-      | inl y ↦ a .0 (y .0) .sum ∙ sym (b .0 (y .0) .sum)
-      | inr y ↦ a .1 (y .0) ∙ sym (b .1 (y .0))
-    ]
-    counts s (sweep moment) n k a b = a ∙ sym b
+    -- the sixth number of what is answered of a void that is taken
+    counted : (b : Bool) (k c i r f : ℕ) (a : List ℕ) → a ≡ pick b (refusal 8 k) (0 ∷ c ∷ i ∷ r ∷ f ∷ k ∷ 0 ∷ []) → getD a 5 0 ≡ k
+    counted true k c i r f a q = ap (λ b. getD b 5 0) q
+    counted false k c i r f a q = ap (λ b. getD b 5 0) q
+
+    one-count : (W : Voids) (T : Tree) (g : Settings) (floor m l : ℕ) (xs : List Start) (t n : ℕ) (a b : List ℕ)
+        → Tries W T g floor m l xs t n a → Tries W T g floor m l xs t n b → getD a 5 0 ≡ getD b 5 0
+    one-count W T g floor m l [] t n a b u v = ap (λ c. getD c 5 0) (u .0 ∙ sym (v .0))
+    one-count W T g floor m l (x ∷ xs) t n a b (inl u) (inl v) = one-count W T g floor m l xs (suc t) (n + (published (x .moment) (free (x .moment) (hold g l)) T) .visits) a b (u .1) (v .1)
+    one-count W T g floor m l (x ∷ xs) t n a b (inl u) (inr (c, s, e, M, B, q)) = absurd (u .0 c s e (M .void) (M .fits))
+    one-count W T g floor m l (x ∷ xs) t n a b (inr (c, s, e, M, B, q)) (inl v) = absurd (v .0 c s e (M .void) (M .fits))
+    one-count W T g floor m l (x ∷ xs) t n a b (inr (c, s, e, M, B, q)) (inr (c′, s′, e′, M′, B′, q′)) =
+        let k = n + (published (x .moment) (free (x .moment) (hold g l)) T) .visits in
+        counted (tooMany g floor m l (x .moment) s e) k c (x .line) (x .moment) (x .moment + l) a q
+        ∙ sym (counted (tooMany g floor m l (x .moment) s′ e′) k c′ (x .line) (x .moment) (x .moment + l) b q′)

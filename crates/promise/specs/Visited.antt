@@ -1,6 +1,6 @@
 -- Demand 3 over the history: a booking after any calls reports exactly the visits of the starts tried, at most 8 * log2 + 1 for each.
 -- 01, The tree and its visits: "An order's count is the sum over the start times tried, also under 7 and 8".
-use mathlib.Core.Path.{_≡_, sym, _∙_, ap, subst}
+use mathlib.Core.Path.{_≡_, _∙_, ap, subst}
 use mathlib.Core.Logic.{inl, inr, _↔_}
 use mathlib.Core.List.{List, [], _∷_}
 use Prim.Native.Nat.{ℕ, _+_, _*_, _≤_}
@@ -18,16 +18,14 @@ use Rattle.shape.specs.Voids.{VoidsIn}
 use Rattle.state.specs.State.{State}
 use Rattle.state.specs.Sound.{Sound}
 use Rattle.state.specs.VoidLaws.{has-voids}
-use Rattle.state.specs.History.{floorOf, Stretches}
+use Rattle.state.specs.History.{Event, floorOf, Stretches}
 use Rattle.state.specs.Count.{Fit, Tried, visitsOf, triedBy, Counted}
 use Rattle.memory.specs.Holds.{Holds}
 use Rattle.calls.specs.declared.act.Done.{Done}
 use Rattle.calls.specs.declared.tell.Told.{Told}
 use Rattle.calls.specs.Calls.{Acts, Tells}
-use Rattle.promise.specs.Session.{Accepted, Calls, history}
-use Rattle.promise.specs.SessionLaws.{accepted-begun}
-use Rattle.promise.specs.GapLaws.{reached-means}
-use Rattle.promise.specs.Gaps.{standing}
+use Rattle.promise.specs.Session.{Since}
+use Rattle.promise.specs.GapLaws.{standing, standing-means}
 use Rattle.promise.specs.Visits.{act-counts, told-bound}
 
 -- the starts tried depend on the set of voids only
@@ -54,31 +52,27 @@ pub record Visited (m : List ℕ) (W : Voids) (h : ℕ) (xs : List Start) (voids
   -- "at most t (8 log2 m + 1)"
   pub bound : (w : ℕ) → Log2 voids w → n ≤ length tries * (8 * w + 1)
 
--- (3) "the count of tree nodes visited is exactly the published search's, and at most t(8⌊log2 m⌋+1)"
-pub visits-of-history : {g : Settings} {F : ℕ} {m m′ m″ : List ℕ} → Accepted g F m → (cs : Calls m m′) → (t : Tally) (bytes : List ℕ) (d : Done) (x : Told) (used r l p : ℕ)
-    → Tells x m′ → Acts t bytes d m′ m″ → reading bytes ≡ order used (booking r l p) → bookingCode g (floorOf F (history g cs)) r l p ≡ 0
-    → Visited m′ (Stretches F (g .channels) (history g cs)) (hold g l) (starts (g .delays) r (hold g l) p) (x .voids) (d .acted .answer .count)
-visits-of-history {g} {F} {m} {m′} {m″} A cs t bytes d x used r l p e a q z =
-    let B = accepted-begun A in
-    let S = standing A cs in
-    let s = S .life .state in
-    let M = reached-means g F (B .bounds) (B .floor) (S .life) (S .reached) in
-    let k : bookingCode (s .settings) (s .floor) r l p ≡ 0 =
-    ap (λ c. bookingCode c (s .floor) r l p) (M .settings) ∙ ap (λ c. bookingCode g c r l p) (M .floor) ∙ ap (λ c. bookingCode g (floorOf F c) r l p) (S .heard) ∙ z in
-    let C = act-counts m′ s (S .sound) (S .holds) t bytes m″ d a used (booking r l p) q .0 k in
+-- (3) "the count of tree nodes visited is exactly the published search's, and at most t(8⌊log2 m⌋+1)", on the link that the memory holds
+pub visits-of-history : {g : Settings} {F : ℕ} {past : List Event} {m m′ : List ℕ} → Since g F past m → (t : Tally) (bytes : List ℕ) (d : Done) (x : Told) (used r l p : ℕ)
+    → Tells x m → Acts t bytes d m m′ → reading bytes ≡ order used (booking r l p) → bookingCode g (floorOf F past) r l p ≡ 0
+    → Visited m (Stretches F (g .channels) past) (hold g l) (starts (g .delays) r (hold g l) p) (x .voids) (d .acted .answer .count)
+visits-of-history {g} {F} {past} {m} {m′} S t bytes d x used r l p e a q z =
+    let T = standing S in
+    let s = T .life .state in
+    let M = standing-means S in
+    let k : bookingCode (s .settings) (s .floor) r l p ≡ 0 = ap (λ c. bookingCode c (s .floor) r l p) (M .settings) ∙ ap (λ c. bookingCode g c r l p) (M .floor) ∙ z in
+    let C = act-counts m s (T .sound) (T .holds) t bytes m′ d a used (booking r l p) q .0 k in
     let D = subst (λ (c : Settings). Counted (s .tree) (hold c l) (starts (c .delays) r (hold c l) p) (d .acted .answer .count)) (M .settings) C in
     let h = hold g l in
     let xs = starts (g .delays) r h p in
-    let over : (c b j : ℕ) → VoidsIn (s .tree) c b j ↔ Stretches F (g .channels) (history g cs) c b j = λ c b j. (
-      (λ v. subst (λ past. Stretches F (g .channels) past c b j) (S .heard) (M .gaps c b j .0 (has-voids c b j (s .tree) .1 v))),
-      (λ v. has-voids c b j (s .tree) .0 (M .gaps c b j .1 (subst (λ past. Stretches F (g .channels) past c b j) (sym (S .heard)) v))),
-    ) in
+    let over : (c b j : ℕ) → VoidsIn (s .tree) c b j ↔ Stretches F (g .channels) past c b j =
+    λ c b j. let H = has-voids c b j (s .tree) in ((λ v. M .gaps c b j .0 (H .1 v)), (λ v. H .0 (M .gaps c b j .1 v))) in
     record {
       link = s;
-      sound = S .sound;
-      held = S .holds;
+      sound = T .sound;
+      held = T .holds;
       tries = triedBy (s .tree) h xs;
-      tried = tried-as (VoidsIn (s .tree)) (Stretches F (g .channels) (history g cs)) over h xs (triedBy (s .tree) h xs) (D .tried);
+      tried = tried-as (VoidsIn (s .tree)) (Stretches F (g .channels) past) over h xs (triedBy (s .tree) h xs) (D .tried);
       sum = D .sum;
-      bound = λ w v. told-bound m′ s (S .sound) (S .holds) x e h xs (d .acted .answer .count) w D v;
+      bound = λ w v. told-bound m s (T .sound) (T .holds) x e h xs (d .acted .answer .count) w D v;
     }

@@ -1,10 +1,11 @@
 -- Demand 3 for every whole link: the count is the published search's visits on its tree, at most 8 * log2 m + 1 for each start tried.
 -- 01, The tree and its visits: "An order's count is the sum over the start times tried, also under 7 and 8".
-use mathlib.Core.Path.{_≡_, refl, _∙_, ap, subst}
-use mathlib.Core.Logic.{_≢_}
+use mathlib.Core.Path.{_≡_, refl, sym, _∙_, ap, subst}
+use mathlib.Core.Logic.{inl, inr, _≢_}
 use mathlib.Core.List.{List, [], _∷_, _++_}
 use Prim.Native.Nat.{ℕ, zero, suc, _+_, _*_, _≤_}
 use lib.ListN.{length, getD, take, drop}
+use Rattle.numbers.specs.Case.{case-eq}
 use Rattle.numbers.specs.Powers.{Log2}
 use Rattle.rule.specs.declared.tally.Tally.{Tally}
 use Rattle.rule.specs.Fit.{hold}
@@ -53,6 +54,14 @@ CountOf s (sweep moment) n = n ≡ 0
 abbrev pub CountsOf : State → List Order → (numbers : List ℕ) → Type 0
 CountsOf s [] numbers = Unit {0}
 CountsOf s (o ∷ os) numbers = CountOf s o (getD (take 7 numbers) 5 0) × CountsOf ((act s o) .after) os (drop 7 numbers)
+
+-- an order has one count on a link
+pub count-one : (s : State) (o : Order) (n k : ℕ) → CountOf s o n → CountOf s o k → n ≡ k
+count-one s (booking r l p) n k a b = elim (case-eq (bookingCode (s .settings) (s .floor) r l p) 0) [
+  | inl y ↦ a .0 (y .0) .sum ∙ sym (b .0 (y .0) .sum)
+  | inr y ↦ a .1 (y .0) ∙ sym (b .1 (y .0))
+]
+count-one s (sweep moment) n k a b = a ∙ sym b
 
 order-count : (s : State) → Sound s → (o : Order) → CountOf s o ((act s o) .count)
 order-count s W (booking r l p) = (act-count s W r l p, (λ h. go (bookingCode (s .settings) (s .floor) r l p) refl h))

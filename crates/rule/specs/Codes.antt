@@ -23,18 +23,10 @@ lacked n m = leb 1 (m / 2 ^ n)
 
 -- a booking of arrival r, length l, permitted lines m
 abbrev pub bookingCode : Settings → (floor r l m : ℕ) → ℕ
-bookingCode g floor r l m = firstCode (
-    (eqb l 0, 3)
-    ∷ (ltb r floor, 4)
-    ∷ (lacked (length (g .delays)) m, 5)
-    ∷ (ltb lastMoment (free r (hold g l)), 6)
-    ∷ [])
+bookingCode g floor r l m = firstCode ((eqb l 0, 3) ∷ (ltb r floor, 4) ∷ (lacked (length (g .delays)) m, 5) ∷ (ltb lastMoment (free r (hold g l)), 6) ∷ [])
 
 abbrev pub sweepCode : Settings → (floor moment : ℕ) → ℕ
-sweepCode g floor moment = firstCode (
-    (ltb moment floor, 9)
-    ∷ (ltb (floor + g .leap) moment, 10)
-    ∷ [])
+sweepCode g floor moment = firstCode ((ltb moment floor, 9) ∷ (ltb (floor + g .leap) moment, 10) ∷ [])
 
 -- "the void taken leaves two pieces and the room is full", with n voids kept
 abbrev pub tooMany : Settings → (floor n l r s e : ℕ) → Bool

@@ -113,6 +113,7 @@ pub record OnTheEdge : Type 0 where
   pub sweep-drops : (stays 11 10 ≡ false) × (stays 11 11 ≡ true) × (stays 11 12 ≡ true)
   pub leap : (sweepCode (settings 1 [] 1) 0 1000 ≡ 0) × (sweepCode (settings 1 [] 1) 0 1001 ≡ 10)
   pub full-room : Answers (opened 1) 10 5 0 (refused 8) × Answers (opened 1) 0 5 0 (booked 0 0 0 5)
+  pub both-delays : starts (5 ∷ 9 ∷ []) 10 1 3 ≡ record { line = 0; moment = 10 } ∷ record { line = 1; moment = 15 } ∷ record { line = 2; moment = 19 } ∷ []
   pub second-line : Answers delays 10 1 3 (booked 0 2 19 20)
   pub heights : Allowed 1 0 × Allowed 3 2 × Allowed 4 4
 
@@ -135,6 +136,7 @@ on-the-edge = record {
     answers (opened 1) 10 5 0 _ (taken 0 10 0 0 openEnd) (one-end _) refl (at-once _ (settings 1 [] 1) 10 5 0 (omega arith)) refl,
     answers (opened 1) 0 5 0 _ (taken 0 0 0 0 openEnd) (one-end _) refl (at-once _ (settings 1 [] 1) 0 5 0 (omega arith)) refl,
   );
+  both-delays = refl;
   second-line = answers delays 10 1 3 _ (taken 2 19 0 18 openEnd) (one-end _) refl
       (inr (none-of-one _ 10 11 (λ x. omega arith), inr (none-of-one _ 15 16 (λ x. omega arith), inl (refl, refl, only-one _ 19 20 (omega arith))))) refl;
   heights = (

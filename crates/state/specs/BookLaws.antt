@@ -14,10 +14,9 @@ use Rattle.shape.specs.TreeLaws.{all-map, all-of}
 use Rattle.state.specs.Room.{Room}
 use Rattle.state.specs.State.{State, first}
 use Rattle.state.specs.Places.{Placed}
-use Rattle.state.specs.Ticks.{on}
 use Rattle.state.specs.Cover.{cov, cover}
 use Rattle.state.specs.TickLaws.{on-yes, on-past, cov-no, cov-empty, cov-split}
-use Rattle.state.specs.History.{Longest}
+use Rattle.state.specs.History.{on, Longest}
 use Rattle.state.specs.Bordered.{Bordered, Kept}
 use Rattle.state.specs.LongestLaws.{longest-same, bordered, leaf-longest}
 use Rattle.state.specs.OpenEndLaws.{another}

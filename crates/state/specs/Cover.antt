@@ -2,7 +2,7 @@
 use Prim.Native.Nat.{ℕ}
 use Rattle.rule.specs.Key.{startOf, channelOf}
 use Rattle.shape.specs.Tree.{Tree, weight}
-use Rattle.state.specs.Ticks.{on}
+use Rattle.state.specs.History.{on}
 
 -- 1 where the void of the leaf p k e holds the tick t of channel c, else 0
 unfoldable pub cov : (c t p k e : ℕ) → ℕ

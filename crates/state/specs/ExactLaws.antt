@@ -66,7 +66,7 @@ module _ (M : Meaning) (d : OneEnd (Has (M .voids))) (r l m : ℕ) (y : Reply) (
   h = hold (M .settings) l
 
   abbrev xs : List Start
-  xs = startsOf M r l m
+  xs = startsOf (M .settings) r l m
 
   abbrev code : ℕ
   code = bookingCode (M .settings) (M .floor) r l m
@@ -74,14 +74,14 @@ module _ (M : Meaning) (d : OneEnd (Has (M .voids))) (r l m : ℕ) (y : Reply) (
   abbrev answer : Choice → Reply
   answer o = chosenReply (M .settings) (M .floor) (length (M .voids)) l o
 
-  pub seven-exactly : (y ≡ refused 7) ↔ ((code ≡ 0) × NothingFits M r l m)
+  pub seven-exactly : (y ≡ refused 7) ↔ ((code ≡ 0) × NothingFits W (M .settings) r l m)
   seven-exactly = go code (booking-code-small (M .settings) (M .floor) r l m) R
     where
-      is : (o : Choice) → Chosen W h xs o → y ≡ answer o → y ≡ refused 7 → NothingFits M r l m
+      is : (o : Choice) → Chosen W h xs o → y ≡ answer o → y ≡ refused 7 → NothingFits W (M .settings) r l m
       is nothing c q p = nothing-chosen W h xs .0 c
       is (taken i b k s e) c q p = let z = taken-reply (M .settings) (M .floor) (length (M .voids)) l i b k s e 7 .0 (sym q ∙ p) in absurd (omega (arith, z .0))
 
-      go : (x : ℕ) → x ≤ 6 → Booking M r l m y N x → (y ≡ refused 7) ↔ ((x ≡ 0) × NothingFits M r l m)
+      go : (x : ℕ) → x ≤ 6 → Booking M r l m y N x → (y ≡ refused 7) ↔ ((x ≡ 0) × NothingFits W (M .settings) r l m)
       go zero n z = (
         (λ q. (refl, is (z .0) (z .1) (z .2) q)),
         (λ a. z .2 ∙ ap answer (chosen-one W d h xs (z .0) nothing (z .1) (nothing-chosen W h xs .1 (a .1)))),
@@ -107,7 +107,7 @@ module _ (M : Meaning) (d : OneEnd (Has (M .voids))) (r l m : ℕ) (y : Reply) (
 
 -- and so of a sound link's own reply
 module _ (s : State) (S : Sound s) (r l m : ℕ) where
-  pub act-seven : ((act s (booking r l m)) .reply ≡ refused 7) ↔ ((bookingCode (s .settings) (s .floor) r l m ≡ 0) × NothingFits (meaning s) r l m)
+  pub act-seven : ((act s (booking r l m)) .reply ≡ refused 7) ↔ ((bookingCode (s .settings) (s .floor) r l m ≡ 0) × NothingFits (Has (meaning s .voids)) (s .settings) r l m)
   act-seven = seven-exactly (meaning s) (one-end 0 mostKey (s .tree) (S .ordered)) r l m _ _ (act-rule s S (booking r l m) tt)
 
   pub act-eight : ((act s (booking r l m)) .reply ≡ refused 8) ↔ ((bookingCode (s .settings) (s .floor) r l m ≡ 0) × TwoPieces (meaning s) r l m)

@@ -4,30 +4,21 @@ use mathlib.Core.Path.{_≡_}
 use mathlib.Core.Bool.{true}
 use mathlib.Core.List.{List, [], _∷_}
 use Prim.Native.Nat.{ℕ, suc, _+_, _≤_, _<_}
+use lib.Dec.{leb, eqb}
+use Rattle.numbers.specs.Case.{pick}
 use Rattle.rule.specs.Moments.{openEnd}
-use Rattle.rule.specs.Settings.{Settings}
-use Rattle.rule.specs.Fit.{hold, free}
 use Rattle.rule.specs.Kept.{stays}
 use Rattle.rule.specs.Voids.{Voids}
-use Rattle.rule.specs.Order.{Order, booking, sweep}
-use Rattle.rule.specs.Answer.{Reply, booked, swept, refused}
-use Rattle.state.specs.State.{State}
-use Rattle.state.specs.Act.{act}
-use Rattle.state.specs.Ticks.{on}
 
 -- ---- what has been accepted, the latest first
 pub data Event : Type 0 where
   books : (channel start end : ℕ) → Event
   sweeps : (moment : ℕ) → Event
 
--- what an order and its reply add: a booking holds its channel from its start until the channel is free again
-abbrev pub event : Settings → Order → Reply → List Event → List Event
-event g (booking r l m) (booked c i s f) es = books c s (free s (hold g l)) ∷ es
-event g (booking r l m) (swept d) es = es
-event g (booking r l m) (refused x) es = es
-event g (sweep moment) (booked c i s f) es = es
-event g (sweep moment) (swept d) es = sweeps moment ∷ es
-event g (sweep moment) (refused x) es = es
+-- 1 where the span of channel d from s up to but not at e holds the tick t of channel c, else 0. That time is idle or held is said by such
+-- counts, so that the laws about it are arithmetic
+unfoldable pub on : (c t d s e : ℕ) → ℕ
+on c t d s e = pick (eqb d c) (pick (leb s t) (pick (leb e t) 0 1) 0) 0
 
 -- how many bookings hold the tick t of channel c
 abbrev pub held : List Event → (c t : ℕ) → ℕ
@@ -40,21 +31,6 @@ abbrev pub floorOf : (F : ℕ) → List Event → ℕ
 floorOf F [] = F
 floorOf F (books d s e ∷ es) = floorOf F es
 floorOf F (sweeps moment ∷ es) = moment
-
--- ---- a link and its history, as orders come
-pub record Life : Type 0 where
-  pub state : State
-  pub past : List Event
-
-abbrev pub born : State → Life
-born s = record { state = s; past = [] }
-
-abbrev pub next : Life → Order → Life
-next x o = let y = act (x .state) o in record { state = y .after; past = event (x .state .settings) o (y .reply) (x .past) }
-
-abbrev pub live : Life → List Order → Life
-live x [] = x
-live x (o ∷ os) = live (next x o) os
 
 -- ---- idle time. F: the floor at the opening; H c t: how many bookings hold the tick t of channel c
 abbrev pub Idle : (F : ℕ) → (ℕ → ℕ → ℕ) → (c t : ℕ) → Type 0

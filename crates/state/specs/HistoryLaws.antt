@@ -19,7 +19,8 @@ use Rattle.state.specs.Act.{act}
 use Rattle.state.specs.Open.{fresh}
 use Rattle.state.specs.Sound.{Sound}
 use Rattle.state.specs.TickLaws.{cover-in}
-use Rattle.state.specs.History.{Event, event, held, floorOf, Life, born, next, live, Stretches}
+use Rattle.state.specs.History.{Event, held, floorOf, Stretches}
+use Rattle.state.specs.Life.{event, Life, born, next, live}
 use Rattle.state.specs.Bordered.{Bordered, Kept}
 use Rattle.state.specs.LongestLaws.{kept-longest}
 use Rattle.state.specs.KeptLaws.{stays-least}

@@ -3,10 +3,10 @@ pub mod Act
 pub mod Open
 pub mod Sound
 pub mod Places
-pub mod Ticks
+pub mod History
 pub mod Cover
 pub mod TickLaws
-pub mod History
+pub mod Life
 pub mod Bordered
 pub mod LongestLaws
 pub mod LeafLaws

@@ -10,7 +10,7 @@ use Rattle.rule.specs.Answer.{Reply, booked, swept, refused}
 use Rattle.shape.specs.Tree.{size}
 use Rattle.state.specs.State.{State}
 use Rattle.state.specs.Places.{Placed}
-use Rattle.state.specs.Ticks.{on}
+use Rattle.state.specs.History.{on}
 use Rattle.state.specs.Bordered.{Kept}
 
 -- F₀: where idle time starts; F and g: the floor and the settings now; H: what bookings hold

@@ -9,7 +9,7 @@ use Rattle.numbers.specs.Case.{pick, case-le, case-eq}
 use Rattle.rule.specs.Key.{keyOf, startOf, channelOf, start-of-key, channel-of-key}
 use Rattle.shape.specs.Tree.{Tree, In}
 use Rattle.shape.specs.PlaceLaws.{weight-in, weight-some}
-use Rattle.state.specs.Ticks.{on}
+use Rattle.state.specs.History.{on}
 use Rattle.state.specs.Cover.{cov, cover}
 
 -- ---- 1 from the tick a on, and 0 before

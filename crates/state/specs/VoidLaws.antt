@@ -72,10 +72,10 @@ one-end a b t o c s e e′ i j =
 
 -- ---- a choice depends on the set of voids only
 module _ (W U : Voids) (f : (c s e : ℕ) → W c s e ↔ U c s e) where
-  no-fit-as : (r g : ℕ) → NoFit W r g → NoFit U r g
+  pub no-fit-as : (r g : ℕ) → NoFit W r g → NoFit U r g
   no-fit-as r g n c s e u = n c s e (f c s e .1 u)
 
-  min-sv-as : (r g c s e : ℕ) → MinSV W r g c s e → MinSV U r g c s e
+  pub min-sv-as : (r g c s e : ℕ) → MinSV W r g c s e → MinSV U r g c s e
   min-sv-as r g c s e m = record { void = f c s e .0 (m .void); fits = m .fits; best = λ c′ s′ e′ u. m .best c′ s′ e′ (f c′ s′ e′ .1 u) }
 
   pub chosen-as : (h : ℕ) (xs : List Start) (o : Choice) → Chosen W h xs o → Chosen U h xs o
