@@ -4,3 +4,4 @@ pub mod Reps
 pub mod Once
 pub mod Same
 pub mod Sums
+pub mod Paths

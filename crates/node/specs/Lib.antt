@@ -1,2 +1,3 @@
 pub mod Layout
 pub mod Rep
+pub mod Paths

@@ -16,7 +16,7 @@ use Rattle.node.specs.Rep.{nodeOf, Rep, Stands}
 use Rattle.node.proofs.Frames.{kept-none, node-kept, within-kept}
 use Rattle.node.proofs.Reps.{seen, within, tall, rep-at}
 use Rattle.tree.specs.Turns.{OverOn, BalancesOn}
-use Rattle.tree.specs.Changes.{longestWay}
+use Rattle.node.specs.Paths.{longestWay}
 use Rattle.tree.proofs.Sides.{Children, children}
 use Rattle.tree.proofs.Balancing.{balance-here, balance-near, balance-far}
 

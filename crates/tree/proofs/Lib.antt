@@ -9,4 +9,5 @@ pub mod Above
 pub mod Climbing
 pub mod Settling
 pub mod Starting
+pub mod Paths
 pub mod Single

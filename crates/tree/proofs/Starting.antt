@@ -11,7 +11,8 @@ use Rattle.node.specs.declared.Node.{Node}
 use Rattle.node.specs.Layout.{Within, nodeAt, leafNode, Saved, Mendable}
 use Rattle.node.proofs.Reps.{tall}
 use Rattle.tree.specs.Turns.{OverOn}
-use Rattle.tree.specs.Changes.{longestWay, Alone, Ready}
+use Rattle.node.specs.Paths.{longestWay}
+use Rattle.tree.specs.Changes.{Alone, Ready}
 use Rattle.tree.specs.Ways.{Leads, Way, adding, cutting, ending, Rising, Settling}
 use Rattle.tree.proofs.Setting.{within-alone, set-leaf}
 use Rattle.tree.proofs.Growing.{within-ready, leaf-mendable, grow-leaf}

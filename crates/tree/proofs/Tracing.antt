@@ -11,7 +11,8 @@ use lib.Seq.{getD-set-same, getD-set-other}
 use Rattle.shape.specs.Side.{near, far}
 use Rattle.node.specs.declared.Node.{Node}
 use Rattle.node.specs.Layout.{Within, nodeAt}
-use Rattle.tree.specs.Changes.{longestWay, Alone}
+use Rattle.node.specs.Paths.{longestWay}
+use Rattle.tree.specs.Changes.{Alone}
 use Rattle.tree.specs.Ways.{Leads, Way}
 use Rattle.node.proofs.Reps.{tall}
 use Rattle.tree.proofs.Setting.{within-alone, down}

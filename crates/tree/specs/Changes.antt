@@ -6,14 +6,11 @@ use Prim.Native.Nat.{ℕ, _+_, _≤_, _<_}
 use Rattle.shape.specs.Tree.{Tree, height, same, uses, inners, Once, Balanced}
 use Rattle.shape.specs.Arrange.{insert, remove, leafOf, above, setEnd}
 use Rattle.node.specs.Layout.{Within, Kept}
+use Rattle.node.specs.Paths.{longestWay}
 use Rattle.node.specs.Rep.{Stands}
 use Rattle.tree.specs.declared.Cut.{Cut}
 
 -- ---- what is asked
--- a way from the root down to a leaf has at most this many places (a link's trees are lower)
-abbrev pub longestWay : ℕ
-longestWay = 32
-
 -- the tree stands at t, each place once
 pub record Sole (m : List ℕ) (t : ℕ) (tr : Tree) : Type 0 where
   pub stands : Stands m t tr

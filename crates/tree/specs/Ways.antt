@@ -7,8 +7,9 @@ use lib.Dec.{ltb}
 use lib.ListN.{length, getD}
 use Rattle.shape.specs.Side.{near}
 use Rattle.node.specs.Layout.{nodeAt}
+use Rattle.node.specs.Paths.{longestWay}
 use Rattle.tree.specs.declared.Cut.{Cut}
-use Rattle.tree.specs.Changes.{longestWay, Alone, Ready, Sets, Inserts, Removes}
+use Rattle.tree.specs.Changes.{Alone, Ready, Sets, Inserts, Removes}
 
 -- from the inner node at w the key leads to the place x
 pub record Leads (m : List ℕ) (k w x : ℕ) : Type 0 where

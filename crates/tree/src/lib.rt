@@ -9,7 +9,7 @@ ghost use Rattle.tree.specs.Turns.{OverOn, Both, Turns, Balances, Balanc
 ghost use Rattle.tree.specs.Changes.{Alone, Ready, Sets, Inserts, Removes};
 ghost use Rattle.tree.specs.Ways.{Way, Settled, Settles, Risen, Rises};
 
-// The longest way from a root down to a leaf, in places (specs/Changes.antt).
+// The longest way from a root down to a leaf, in places (node's specs/Paths.antt).
 const LONGEST_WAY: usize = 32;
 
 // Of a node's children, the one on the side named, and the other.

@@ -1,0 +1,23 @@
+-- A way down a tree in lent memory, as a list of places: each is a child of the one before it.
+-- Whoever goes down may note it, and who goes up again needs no second search.
+use mathlib.Core.Path.{_≡_}
+use mathlib.Core.Logic.{_⊎_}
+use mathlib.Core.List.{List}
+use Prim.Native.Nat.{ℕ, suc, _<_}
+use lib.ListN.{length, getD}
+use Rattle.node.specs.Layout.{nodeAt}
+
+-- a way from the root down to a leaf has at most this many places (a link's trees are lower)
+abbrev pub longestWay : ℕ
+longestWay = 32
+
+-- x is a child of the inner node at w
+pub record Child (m : List ℕ) (w x : ℕ) : Type 0 where
+  pub inner : nodeAt m w .height ≡ 0 → ⊥
+  pub is : (x ≡ nodeAt m w .left) ⊎ (x ≡ nodeAt m w .right)
+
+-- the first d + 1 places of the list go down from t
+pub record Down (m : List ℕ) (t d : ℕ) (ws : List ℕ) : Type 0 where
+  pub long : d < length ws
+  pub first : getD ws 0 0 ≡ t
+  pub steps : (i : ℕ) → i < d → Child m (getD ws i 0) (getD ws (suc i) 0)
