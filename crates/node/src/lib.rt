@@ -1,10 +1,21 @@
-// A node of the tree in lent memory: five words, after a header of 26 words (docs/ARCHITECTURE.md).
+// A node of the tree in lent memory: its words, after the header (docs/ARCHITECTURE.md).
 // Above this crate nobody speaks of a node's words: only of the node at a place.
 ghost use mathlib.Core.Path.{_≡_};
 ghost use mathlib.Core.Bool.{true};
 ghost use mathlib.Core.Logic.{_↔_};
-ghost use Prim.Native.Nat.{_+_, _*_, _≤_, _<_, min, max};
+ghost use Prim.Native.Nat.{_+_, _*_, _≤_, _<_};
 ghost use Rattle.node.specs.Layout.{Within, Fits, nodeAt, leafNode, overNode, summedNode, withSums, SameSums, Saved, Over, Mendable, Summable, Sums};
+use numbers::pairs::larger;
+use numbers::pairs::smaller;
+
+// The layout: the words and bytes of the header, and those of each node after it.
+pub const HEADER_WORDS: usize = 26;
+
+pub const HEADER_BYTES: usize = 8 * HEADER_WORDS;
+
+pub const NODE_WORDS: usize = 5;
+
+pub const NODE_BYTES: usize = 8 * NODE_WORDS;
 
 pub struct Node {
     pub height: u64,
@@ -14,18 +25,6 @@ pub struct Node {
     pub low: u64,
     pub left: u64,
     pub right: u64,
-}
-
-fn larger(a: u64, b: u64) -> u64
-    ensures { λ r. ⌜ r ≡ max a b ⌝ }
-{
-    if a < b { b } else { a }
-}
-
-fn smaller(a: u64, b: u64) -> u64
-    ensures { λ r. ⌜ r ≡ min a b ⌝ }
-{
-    if a < b { a } else { b }
 }
 
 // The node of a void with that key and end.
@@ -64,7 +63,7 @@ pub fn load(mem: &[u8], p: usize) -> Node
     requires { ⌜ Within (now mem) p ⌝ }
     ensures { λ n. ⌜ n ≡ nodeAt (now (mem .entry)) p ⌝ }
 {
-    let b = 5 * p + 26;
+    let b = NODE_WORDS * p + HEADER_WORDS;
     let links = numbers::words::get(mem, b + 4);
     Node {
         height: links / 4294967296,
@@ -83,7 +82,7 @@ pub fn save(mem: &mut [u8], p: usize, n: Node)
     requires { ⌜ Fits n ⌝ }
     ensures { λ _. ⌜ Saved p n (now (mem .entry)) (now (mem .exit)) ⌝ }
 {
-    let b = 5 * p + 26;
+    let b = NODE_WORDS * p + HEADER_WORDS;
     numbers::words::put(mem, b, n.lo);
     numbers::words::put(mem, b + 1, n.split);
     numbers::words::put(mem, b + 2, n.top);
@@ -120,7 +119,7 @@ fn save_sums(mem: &mut [u8], p: usize, n: Node)
     requires { ⌜ Within (now mem) p ⌝ }
     ensures { λ _. ⌜ Saved p (withSums n (nodeAt (now (mem .entry)) p)) (now (mem .entry)) (now (mem .exit)) ⌝ }
 {
-    let b = 5 * p + 26;
+    let b = NODE_WORDS * p + HEADER_WORDS;
     numbers::words::put(mem, b, n.lo);
     numbers::words::put(mem, b + 1, n.split);
     numbers::words::put(mem, b + 2, n.top);
