@@ -4,7 +4,7 @@ ghost use mathlib.Core.Path.{_≡_};
 ghost use mathlib.Core.Bool.{true};
 ghost use mathlib.Core.Logic.{_↔_};
 ghost use Prim.Native.Nat.{_+_, _*_, _≤_, _<_};
-ghost use Rattle.node.specs.Layout.{Within, Fits, nodeAt, leafNode, overNode, summedNode, withSums, SameSums, Saved, Over, Mendable, Summable, Sums};
+ghost use Rattle.node.specs.Layout.{Within, Fits, nodeAt, leafNode, overNode, summedNode, withSums, sumsSaved, SameSums, Saved, Over, Mendable, Summable, Sums};
 use numbers::pairs::larger;
 use numbers::pairs::smaller;
 
@@ -42,20 +42,36 @@ pub fn leaf(key: u64, end: u64) -> Node
     }
 }
 
+// The node n over two others, its sums taken anew.
+fn summed(n: Node, x: Node, y: Node) -> Node
+    ensures { λ s. ⌜ s ≡ summedNode n x y ⌝ }
+{
+    Node {
+        height: n.height,
+        lo: x.lo,
+        split: y.lo,
+        top: larger(x.top, y.top),
+        low: smaller(x.low, y.low),
+        left: n.left,
+        right: n.right,
+    }
+}
+
 // The node over two others, which stand at l and r.
 fn over(x: Node, y: Node, l: u64, r: u64) -> Node
     requires { ⌜ (x .height < 4294967295) × (y .height < 4294967295) ⌝ }
     ensures { λ n. ⌜ n ≡ overNode x y l r ⌝ }
 {
-    Node {
+    let bare = Node {
         height: larger(x.height, y.height) + 1,
-        lo: x.lo,
-        split: y.lo,
-        top: larger(x.top, y.top),
-        low: smaller(x.low, y.low),
+        lo: 0,
+        split: 0,
+        top: 0,
+        low: 0,
         left: l,
         right: r,
-    }
+    };
+    summed(bare, x, y)
 }
 
 // The node at place p.
@@ -76,17 +92,26 @@ pub fn load(mem: &[u8], p: usize) -> Node
     }
 }
 
-// Makes n the node at place p.
-pub fn save(mem: &mut [u8], p: usize, n: Node)
+// Writes the sums of n at place p; height and places stay.
+fn save_sums(mem: &mut [u8], p: usize, n: Node)
     requires { ⌜ Within (now mem) p ⌝ }
-    requires { ⌜ Fits n ⌝ }
-    ensures { λ _. ⌜ Saved p n (now (mem .entry)) (now (mem .exit)) ⌝ }
+    ensures { λ _. ⌜ (now (mem .exit) ≡ sumsSaved (now (mem .entry)) p n) × Saved p (withSums n (nodeAt (now (mem .entry)) p)) (now (mem .entry)) (now (mem .exit)) ⌝ }
 {
     let b = NODE_WORDS * p + HEADER_WORDS;
     numbers::words::put(mem, b, n.lo);
     numbers::words::put(mem, b + 1, n.split);
     numbers::words::put(mem, b + 2, n.top);
     numbers::words::put(mem, b + 3, n.low);
+}
+
+// Makes n the node at place p.
+pub fn save(mem: &mut [u8], p: usize, n: Node)
+    requires { ⌜ Within (now mem) p ⌝ }
+    requires { ⌜ Fits n ⌝ }
+    ensures { λ _. ⌜ Saved p n (now (mem .entry)) (now (mem .exit)) ⌝ }
+{
+    save_sums(mem, p, n);
+    let b = NODE_WORDS * p + HEADER_WORDS;
     numbers::words::put(mem, b + 4, n.height * 4294967296 + n.left * 65536 + n.right);
 }
 
@@ -97,33 +122,6 @@ pub fn mend(mem: &mut [u8], p: usize, l: usize, r: usize)
 {
     let n = over(load(mem, l), load(mem, r), l as u64, r as u64);
     save(mem, p, n);
-}
-
-// The node n over two others, its sums taken anew.
-fn summed(n: Node, x: Node, y: Node) -> Node
-    ensures { λ s. ⌜ s ≡ summedNode n x y ⌝ }
-{
-    Node {
-        height: n.height,
-        lo: x.lo,
-        split: y.lo,
-        top: larger(x.top, y.top),
-        low: smaller(x.low, y.low),
-        left: n.left,
-        right: n.right,
-    }
-}
-
-// Writes the sums of n at place p; height and places stay.
-fn save_sums(mem: &mut [u8], p: usize, n: Node)
-    requires { ⌜ Within (now mem) p ⌝ }
-    ensures { λ _. ⌜ Saved p (withSums n (nodeAt (now (mem .entry)) p)) (now (mem .entry)) (now (mem .exit)) ⌝ }
-{
-    let b = NODE_WORDS * p + HEADER_WORDS;
-    numbers::words::put(mem, b, n.lo);
-    numbers::words::put(mem, b + 1, n.split);
-    numbers::words::put(mem, b + 2, n.top);
-    numbers::words::put(mem, b + 3, n.low);
 }
 
 // Whether two nodes say the same of what is below them.

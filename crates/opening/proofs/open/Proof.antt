@@ -26,7 +26,7 @@ need-requires c κs =
     let start = at-in-bounds .before .before .before in
     let g = settings (start .args .room) (start .args .channels) (start .args .leap) (start .args .delays .now) in
     let b : inBounds g ≡ true = holds (at-in-bounds .in-bounds .ensures) (c .if1 .left) in
-    in-bounds g b .room .1
+    omega (arith, in-bounds g b .room .0, in-bounds g b .room .1)
 
 returns-2 : tie.Need-returns-2
 returns-2 c =

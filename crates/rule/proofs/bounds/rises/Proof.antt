@@ -6,7 +6,9 @@ use Rattle.rule.proofs.bounds.rises.Statement.{statement}
 use Rattle.rule.proofs.bounds.rises.Tie as tie
 
 returns : tie.Need-returns
-returns c = simp (le-leb _ _ (c .if1 .taken))
+returns c =
+    let a = c .before .args in
+    simp (le-leb (suc (a .last)) (a .delay) (omega (arith, c .if1 .taken)))
 
 returns-2 : tie.Need-returns-2
 returns-2 c =
