@@ -103,4 +103,4 @@ opening-inside n (opening u o) h = h
 opening-inside n (order u o) h = omega arith
 
 pub reads-opening : (s : List ℕ) (r : Record) → meant s r ≡ openingOnly (reading s) → Narrow r → ReadsOpening s r
-reads-opening s r q n = record { is = q; narrow = n; inside = opening-inside (length s) (reading s) (inside s) }
+reads-opening s r q n = record { is = q; narrow = n; inside = opening-inside (length s) (reading s) (inside s); alone = alone s }

@@ -40,6 +40,7 @@ pub record ReadsOpening (bytes : List ℕ) (r : Record) : Type 0 where
   pub is : meant bytes r ≡ openingOnly (reading bytes)
   pub narrow : Narrow r
   pub inside : usedBy (openingOnly (reading bytes)) ≤ length bytes
+  pub alone : (other : List ℕ) → 1 ≤ usedBy (reading bytes) → take (usedBy (reading bytes)) bytes ≡ take (usedBy (reading bytes)) other → reading other ≡ reading bytes
 
 -- the delay of line i + 1 in an opening, 0 where the bytes do not reach so far
 unfoldable pub delayOf : (i : ℕ) → List ℕ → ℕ
