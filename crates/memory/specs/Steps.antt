@@ -1,8 +1,14 @@
 -- What the three steps, and another floor, promise in memory: of every state that the memory holds, the memory after holds the state's own step.
 use mathlib.Core.List.{List}
-use Prim.Native.Nat.{ℕ, _≤_}
-use Rattle.shape.specs.Tree.{Balanced, size}
+use mathlib.Core.Path.{_≡_}
+use mathlib.Core.Bool.{Bool, true, false}
+use Prim.Native.Nat.{ℕ, _≤_, _<_}
+use Rattle.shape.specs.Tree.{Balanced, Ord, low, size}
+use Rattle.tree.specs.declared.Cut.{Cut}
+use Rattle.tree.specs.Changes.{Shrunk}
 use Rattle.state.specs.State.{State, shorten, add, drop, with-floor}
+use Rattle.state.specs.Act.{dropLeast}
+use Rattle.state.specs.Sound.{mostKey}
 use Rattle.state.specs.Places.{Placed}
 use Rattle.memory.specs.Holds.{Holds, After}
 
@@ -30,6 +36,35 @@ Adds k e m m′ = (s : State) → Link m s → After m m′ (add s k e)
 
 abbrev pub Drops : (k : ℕ) → (m m′ : List ℕ) → Type 0
 Drops k m m′ = (s : State) → Link m s → After m m′ (drop s k)
+
+-- the memory after a void of the key was taken out of the tree of s, which m0 holds
+pub record Removal (c : Cut) (m0 : List ℕ) (s : State) (k : ℕ) (m : List ℕ) : Type 0 where
+  pub link : Link m0 s
+  pub two : 2 ≤ size (s .tree)
+  pub cut : Shrunk c k (s .tree) m0 m
+
+abbrev pub Taken : Cut → List ℕ → Type 0
+Taken c m = (m0 : List ℕ) × (s : State) × (k : ℕ) × Removal c m0 s k m
+
+abbrev pub GivesBack : Cut → (m m′ : List ℕ) → Type 0
+GivesBack c m m′ = (m0 : List ℕ) (s : State) (k : ℕ) → Removal c m0 s k m → After m0 m′ (drop s k)
+
+-- a link with rising keys, and with another void if the first to end does so before the bound
+pub record Lined (bound : ℕ) (m : List ℕ) (s : State) : Type 0 where
+  pub link : Link m s
+  pub ordered : Ord 0 mostKey (s .tree)
+  pub two : low (s .tree) < bound → 2 ≤ size (s .tree)
+
+abbrev pub Clearable : (bound : ℕ) → List ℕ → Type 0
+Clearable bound m = (s : State) × Lined bound m s
+
+-- the void that ends first goes if it ends before the bound
+pub record First (bound : ℕ) (b : Bool) (m m′ : List ℕ) (s : State) : Type 0 where
+  pub gone : b ≡ true → (low (s .tree) < bound) × After m m′ (dropLeast s)
+  pub none : b ≡ false → (bound ≤ low (s .tree)) × (m′ ≡ m)
+
+abbrev pub DropsFirst : (bound : ℕ) → Bool → (m m′ : List ℕ) → Type 0
+DropsFirst bound b m m′ = (s : State) → Lined bound m s → First bound b m m′ s
 
 abbrev pub Refloors : (moment : ℕ) → (m m′ : List ℕ) → Type 0
 Refloors moment m m′ = (s : State) → Link m s → After m m′ (with-floor s moment)

@@ -5,9 +5,10 @@ ghost use Prim.Native.Nat.{_<_};
 ghost use Rattle.numbers.specs.Words.{word, store};
 ghost use Rattle.node.specs.Layout.{Within, nodeAt, Saved};
 ghost use Rattle.memory.specs.Holds.{spareNode};
-ghost use Rattle.memory.specs.Steps.{Some, Roomy, Several, Shortens, Adds, Drops, Refloors};
+ghost use Rattle.memory.specs.Steps.{Some, Roomy, Several, Clearable, Taken, GivesBack, Shortens, Adds, Drops, DropsFirst, Refloors};
 use numbers::words::get;
 use numbers::words::put;
+use tree::Cut;
 
 // The words of the header (specs/Header.antt).
 pub const ROOM: usize = 0;
@@ -84,23 +85,45 @@ pub fn add(mem: &mut [u8], key: u64, end: u64)
     put(mem, KEPT, kept + 1);
 }
 
+// After a removal: its two places are spare again, the root is where it says, and one void less is kept.
+fn give_back(mem: &mut [u8], cut: Cut)
+    requires { ⌜ Taken cut (now mem) ⌝ }
+    ensures { λ _. ⌜ GivesBack cut (now (mem .entry)) (now (mem .exit)) ⌝ }
+{
+    let kept = get(mem, KEPT);
+    let room = get(mem, ROOM);
+    let spare = 2 * (room + 1 - kept);
+    let leaf = cut.leaf;
+    let above = cut.node;
+    let root = cut.root;
+    give_spare(mem, above, spare);
+    give_spare(mem, leaf, spare + 1);
+    put(mem, ROOT, root as u64);
+    put(mem, KEPT, kept - 1);
+}
+
 // One void less: the one of the key.
 pub fn drop(mem: &mut [u8], key: u64)
     requires { ⌜ Several (now mem) ⌝ }
     ensures { λ _. ⌜ Drops key (now (mem .entry)) (now (mem .exit)) ⌝ }
 {
     let root = get(mem, ROOT) as usize;
-    let kept = get(mem, KEPT);
-    let room = get(mem, ROOM);
-    let spare = 2 * (room + 1 - kept);
     let cut = tree::remove(mem, root, key);
-    let leaf = cut.leaf;
-    let above = cut.node;
-    let new_root = cut.root;
-    give_spare(mem, above, spare);
-    give_spare(mem, leaf, spare + 1);
-    put(mem, ROOT, new_root as u64);
-    put(mem, KEPT, kept - 1);
+    give_back(mem, cut);
+}
+
+// One void less, the one that ends first, if it ends before the bound. Whether one went.
+pub fn drop_first(mem: &mut [u8], bound: u64) -> bool
+    requires { ⌜ Clearable bound (now mem) ⌝ }
+    ensures { λ b. ⌜ DropsFirst bound b (now (mem .entry)) (now (mem .exit)) ⌝ }
+{
+    let root = get(mem, ROOT) as usize;
+    if bound <= node::load(mem, root).low {
+        return false;
+    }
+    let cut = tree::remove_first(mem, root);
+    give_back(mem, cut);
+    true
 }
 
 // Another floor.

@@ -1,5 +1,4 @@
 pub mod Look
 pub mod Descents
 pub mod Walks
-pub mod Leasts
 pub mod Finds

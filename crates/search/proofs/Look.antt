@@ -5,7 +5,7 @@ use mathlib.Core.Bool.{Bool, true, false}
 use mathlib.Core.List.{List}
 use Prim.Native.Nat.{ℕ, _+_, _<_, max}
 use native.Mathlib.Omega.{arith}
-use Rattle.shape.specs.Tree.{Tree, leaf, node, height, lo, top, low}
+use Rattle.shape.specs.Tree.{Tree, leaf, node, height, lo, top}
 use Rattle.shape.specs.Side.{near}
 use Rattle.node.specs.declared.Node.{Node}
 use Rattle.node.specs.Layout.{Within, nodeAt}
@@ -63,9 +63,6 @@ module _ {m : List ℕ} {p : ℕ} {n : Node} {t : Tree} (e : n ≡ nodeAt m p) (
   pub top-here : n .top ≡ top t
   top-here = ap (λ (a : Node). a .top) (e ∙ seen s)
 
-  pub low-here : n .low ≡ low t
-  low-here = ap (λ (a : Node). a .low) (e ∙ seen s)
-
 -- a child stands in the memory too, and is less high
 module _ (b : Bool) {m : List ℕ} {p : ℕ} {n : Node} (e : n ≡ nodeAt m p) (h : n .height ≡ 0 → ⊥) where
   pub child-within : (t : Tree) → Stands m p t → Within m (childOf b n)
@@ -76,6 +73,3 @@ module _ (b : Bool) {m : List ℕ} {p : ℕ} {n : Node} (e : n ≡ nodeAt m p) (
 
   pub child-searchable : Searchable m p → Searchable m (childOf b n)
   child-searchable s = let i = inner-here e h (s .0) (s .1) in (_, i .child b, omega (arith, i .lower b))
-
-  pub child-less : (x : Node) → x ≡ nodeAt m (childOf b n) → (t : Tree) → Stands m p t → x .height < n .height
-  child-less x q t s = omega (arith, ap heightOf q, ap heightOf e, child-lower t s)

@@ -6,18 +6,13 @@ use mathlib.Core.List.{List}
 use Prim.Native.Nat.{ℕ, _+_, _≤_}
 use lib.ListN.{length}
 use Rattle.numbers.specs.Case.{pick}
-use Rattle.shape.specs.Tree.{Tree, leaf, height, Item}
+use Rattle.shape.specs.Tree.{Tree, leaf, height}
 use Rattle.shape.specs.Visits.{Out, none, some, Result, path, passed, reached, Deepest, unmarked, marked, deepest, descended, bottom}
 use Rattle.node.specs.Layout.{highest, nodeAt}
 use Rattle.node.specs.Rep.{Stands}
 use Rattle.search.specs.declared.Descent.{Descent}
 use Rattle.search.specs.declared.Way.{Way}
 use Rattle.search.specs.declared.Found.{Found}
-use Rattle.search.specs.declared.Leaf.{Leaf}
-
--- some tree stands at p
-abbrev pub Standing : List ℕ → ℕ → Type 0
-Standing m p = (t : Tree) × Stands m p t
 
 -- some tree stands at p, and is not higher
 abbrev pub Searchable : List ℕ → ℕ → Type 0
@@ -50,9 +45,6 @@ foundOf z = foundAt (z .visits) (z .out)
 -- and back
 abbrev pub resultOf : Found → Result
 resultOf x = record { out = pick (x .found) (some (x .place) (x .key) (x .end)) none; visits = x .visits }
-
-abbrev pub itemOf : Leaf → Item
-itemOf x = (x .place, x .key, x .end)
 
 -- ---- what an answer tells of the search
 result-at : (n : ℕ) (o : Out) → resultOf (foundAt n o) ≡ record { out = o; visits = n }

@@ -1,13 +1,12 @@
 // The search of voids in lent memory (01, The tree and its visits): the walk down from the root, the descent from the
-// deepest marked node, both counting their visits as they go; and the way to the void that ends first.
+// deepest marked node, both counting their visits as they go.
 ghost use mathlib.Core.Path.{_≡_};
 ghost use Prim.Native.Nat.{_≤_};
 ghost use Rattle.rule.specs.Moments.{lastMoment};
 ghost use Rattle.shape.specs.Tree.{Tree};
 ghost use Rattle.shape.specs.Visits.{published};
-ghost use Rattle.shape.specs.Least.{least};
 ghost use Rattle.node.specs.Rep.{Stands};
-ghost use Rattle.search.specs.Search.{Searchable, Standing, Descended, Walked, foundOf, itemOf};
+ghost use Rattle.search.specs.Search.{Searchable, Descended, Walked, foundOf};
 
 // The leaf where a descent ends, and the visits on the way to it.
 pub struct Descent {
@@ -31,14 +30,6 @@ pub struct Found {
     pub key: u64,
     pub end: u64,
     pub visits: u64,
-}
-
-// A leaf: its place, key and end.
-#[repr(C)]
-pub struct Leaf {
-    pub place: usize,
-    pub key: u64,
-    pub end: u64,
 }
 
 // From the node p down to the last leaf that ends at f or later: right if the right child has such an end, else left.
@@ -139,30 +130,5 @@ pub fn search(mem: &[u8], root: usize, r: u64, f: u64) -> Found
         key: 0,
         end: 0,
         visits: w.visits,
-    }
-}
-
-// The leaf with the least end, of equal ends the one furthest left: down to the child that has that end.
-pub fn least(mem: &[u8], root: usize) -> Leaf
-    requires { ⌜ Standing (now mem) root ⌝ }
-    ensures { λ x. ⌜ ((t : Tree) → Stands (now (mem .entry)) root t → itemOf x ≡ least t) ⌝ }
-{
-    let mut at = root;
-    let mut n = node::load(mem, at);
-    while n.height != 0 {
-        let left = node::load(mem, n.left as usize);
-        let right = node::load(mem, n.right as usize);
-        if left.low <= right.low {
-            at = n.left as usize;
-            n = left;
-        } else {
-            at = n.right as usize;
-            n = right;
-        }
-    }
-    Leaf {
-        place: at,
-        key: n.lo,
-        end: n.top,
     }
 }

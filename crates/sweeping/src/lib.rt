@@ -17,11 +17,8 @@ fn clear(mem: &mut [u8], moment: u64) -> u64
 {
     let bound = rule::kept::least(moment);
     let mut dropped = 0;
-    let mut first = search::least(mem, get(mem, memory::ROOT) as usize);
-    while first.end < bound {
-        memory::drop(mem, first.key);
+    while memory::drop_first(mem, bound) {
         dropped += 1;
-        first = search::least(mem, get(mem, memory::ROOT) as usize);
     }
     dropped
 }

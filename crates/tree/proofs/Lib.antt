@@ -10,4 +10,5 @@ pub mod Climbing
 pub mod Settling
 pub mod Starting
 pub mod Paths
+pub mod Finding
 pub mod Single

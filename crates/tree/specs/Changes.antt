@@ -3,8 +3,9 @@
 use mathlib.Core.Path.{_≡_}
 use mathlib.Core.List.{List}
 use Prim.Native.Nat.{ℕ, _+_, _≤_, _<_}
-use Rattle.shape.specs.Tree.{Tree, height, same, uses, inners, Once, Balanced}
+use Rattle.shape.specs.Tree.{Tree, height, same, uses, inners, Once, Balanced, Ord}
 use Rattle.shape.specs.Arrange.{insert, remove, leafOf, above, setEnd}
+use Rattle.shape.specs.Least.{least}
 use Rattle.node.specs.Layout.{Within, Kept}
 use Rattle.node.specs.Paths.{longestWay}
 use Rattle.node.specs.Rep.{Stands}
@@ -62,5 +63,13 @@ pub record Shrunk (c : Cut) (k : ℕ) (tr : Tree) (m m′ : List ℕ) : Type 0 w
   pub high : height (remove k tr) ≤ height tr
   pub kept : Kept (λ z. inners z (remove k tr)) m m′
 
+-- the tree's keys rise, too
+abbrev pub Ordered : List ℕ → ℕ → Type 0
+Ordered m t = (tr : Tree) × Sole m t tr × (a : ℕ) × (b : ℕ) × Ord a b tr
+
 abbrev pub Removes : (t k : ℕ) → Cut → (m m′ : List ℕ) → Type 0
 Removes t k c m m′ = (tr : Tree) → Sole m t tr → Shrunk c k tr m m′
+
+-- the leaf that is removed is the one with the least end
+abbrev pub RemovesFirst : (t : ℕ) → Cut → (m m′ : List ℕ) → Type 0
+RemovesFirst t c m m′ = (tr : Tree) → Sole m t tr → (a b : ℕ) → Ord a b tr → Shrunk c (least tr .1) tr m m′

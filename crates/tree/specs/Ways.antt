@@ -5,9 +5,12 @@ use mathlib.Core.List.{List}
 use Prim.Native.Nat.{ℕ, zero, suc, _+_, _≤_, _<_}
 use lib.Dec.{ltb}
 use lib.ListN.{length, getD}
+use Rattle.shape.specs.Tree.{Tree}
 use Rattle.shape.specs.Side.{near}
+use Rattle.shape.specs.Least.{least}
 use Rattle.node.specs.Layout.{nodeAt}
-use Rattle.node.specs.Paths.{longestWay}
+use Rattle.node.specs.Rep.{Stands}
+use Rattle.node.specs.Paths.{longestWay, Down}
 use Rattle.tree.specs.declared.Cut.{Cut}
 use Rattle.tree.specs.Changes.{Alone, Ready, Sets, Inserts, Removes}
 
@@ -23,6 +26,13 @@ pub record Way (m : List ℕ) (t k d : ℕ) (ws : List ℕ) : Type 0 where
   pub first : getD ws 0 0 ≡ t
   pub leads : (i : ℕ) → i < d → Leads m k (getD ws i 0) (getD ws (suc i) 0)
   pub last : nodeAt m (getD ws d 0) .height ≡ 0
+
+-- the first d + 1 places of the list go down from t to the leaf with the least end
+pub record First (m : List ℕ) (t d : ℕ) (ws : List ℕ) : Type 0 where
+  pub down : Down m t d ws
+  pub short : d < longestWay
+  pub last : nodeAt m (getD ws d 0) .height ≡ 0
+  pub key : (tr : Tree) → Stands m t tr → nodeAt m (getD ws d 0) .lo ≡ least tr .1
 
 -- ---- a change: a void put in, taken out, or given another end
 pub data Change : Type 0 where
@@ -78,3 +88,10 @@ Risen ws k from x m = (c : Change) × (m0 : List ℕ) × (t : ℕ) × (d : ℕ) 
 
 abbrev pub Rises : List ℕ → (k from x x′ : ℕ) → (m m′ : List ℕ) → Type 0
 Rises ws k from x x′ m m′ = (c : Change) (m0 : List ℕ) (t d : ℕ) → Turned c → Rising c m0 t k d ws from x m → Becomes c k t x′ m0 m′
+
+-- ---- a leaf taken out at the end of the way
+abbrev pub Cuttable : List ℕ → (d k : ℕ) → List ℕ → Type 0
+Cuttable ws d k m = (t : ℕ) × Way m t k d ws × (1 ≤ nodeAt m t .height) × Alone m t
+
+abbrev pub Cuts : List ℕ → (d k : ℕ) → Cut → (m m′ : List ℕ) → Type 0
+Cuts ws d k c m m′ = (t : ℕ) → Way m t k d ws → 1 ≤ nodeAt m t .height → Alone m t → Removes t k c m m′

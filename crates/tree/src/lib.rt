@@ -6,8 +6,8 @@ ghost use lib.ListN.{length};
 ghost use Rattle.shape.specs.Side.{near, far};
 ghost use Rattle.node.specs.Layout.{nodeAt, Mendable};
 ghost use Rattle.tree.specs.Turns.{OverOn, Both, Turns, Balances, BalancesOn};
-ghost use Rattle.tree.specs.Changes.{Alone, Ready, Sets, Inserts, Removes};
-ghost use Rattle.tree.specs.Ways.{Way, Settled, Settles, Risen, Rises};
+ghost use Rattle.tree.specs.Changes.{Alone, Ready, Ordered, Sets, Inserts, Removes, RemovesFirst};
+ghost use Rattle.tree.specs.Ways.{Way, First, Settled, Settles, Risen, Rises, Cuttable, Cuts};
 
 // The longest way from a root down to a leaf, in places (node's specs/Paths.antt).
 const LONGEST_WAY: usize = 32;
@@ -109,6 +109,27 @@ fn trace(mem: &[u8], root: usize, key: u64, way: &mut [u16]) -> usize
     depth
 }
 
+// From the root down to the leaf with the least end, of equal ends the one furthest left, noting the way. How many steps that is.
+fn trace_first(mem: &[u8], root: usize, way: &mut [u16]) -> usize
+    requires { ⌜ nodeAt (now mem) root .height < length (now way) ⌝ }
+    requires { ⌜ Alone (now mem) root ⌝ }
+    ensures { λ d. ⌜ First (now (mem .entry)) root d (now (way .exit)) ⌝ }
+{
+    let mut at = root;
+    let mut depth = 0;
+    way[0] = root as u16;
+    let mut n = node::load(mem, at);
+    let low = n.low;
+    while n.height != 0 {
+        let left = node::load(mem, n.left as usize);
+        at = near(left.low == low, n.left, n.right);
+        depth += 1;
+        way[depth] = at as u16;
+        n = node::load(mem, at);
+    }
+    depth
+}
+
 // Sums up the way anew from a place upward, as far as anything changes.
 fn settle(mem: &mut [u8], way: &[u16], from: usize)
     requires { ⌜ Settled (now way) from (now mem) ⌝ }
@@ -181,6 +202,20 @@ pub struct Cut {
     pub node: usize,
 }
 
+// Takes the leaf at the end of the key's way out of the tree.
+fn take_out(mem: &mut [u8], way: &[u16], depth: usize, key: u64) -> Cut
+    requires { ⌜ Cuttable (now way) depth key (now mem) ⌝ }
+    ensures { λ c. ⌜ Cuts (now (way .entry)) depth key c (now (mem .entry)) (now (mem .exit)) ⌝ }
+{
+    let leaf = way[depth] as usize;
+    let above = depth - 1;
+    let node = way[above] as usize;
+    let n = node::load(mem, node);
+    let beside = far(key < n.split, n.left, n.right);
+    let root = rise(mem, way, above, key, beside);
+    Cut { root, leaf, node }
+}
+
 // Takes the leaf that the key leads to out of the tree at t, which is no leaf itself.
 pub fn remove(mem: &mut [u8], t: usize, key: u64) -> Cut
     requires { ⌜ 1 ≤ nodeAt (now mem) t .height ⌝ }
@@ -189,11 +224,17 @@ pub fn remove(mem: &mut [u8], t: usize, key: u64) -> Cut
 {
     let mut way = [0u16; LONGEST_WAY];
     let depth = trace(mem, t, key, &mut way);
-    let leaf = way[depth] as usize;
-    let above = depth - 1;
-    let node = way[above] as usize;
-    let n = node::load(mem, node);
-    let beside = far(key < n.split, n.left, n.right);
-    let root = rise(mem, &way, above, key, beside);
-    Cut { root, leaf, node }
+    take_out(mem, &way, depth, key)
+}
+
+// Takes out the leaf with the least end, of equal ends the one furthest left.
+pub fn remove_first(mem: &mut [u8], t: usize) -> Cut
+    requires { ⌜ 1 ≤ nodeAt (now mem) t .height ⌝ }
+    requires { ⌜ Ordered (now mem) t ⌝ }
+    ensures { λ c. ⌜ RemovesFirst t c (now (mem .entry)) (now (mem .exit)) ⌝ }
+{
+    let mut way = [0u16; LONGEST_WAY];
+    let depth = trace_first(mem, t, &mut way);
+    let first = node::load(mem, way[depth] as usize);
+    take_out(mem, &way, depth, first.lo)
 }

@@ -2,8 +2,8 @@
 ghost use Prim.Native.Nat.{_≤_};
 ghost use Rattle.rule.specs.Moments.{lastMoment};
 ghost use Rattle.node.specs.Layout.{Within, nodeAt};
-ghost use Rattle.tree.specs.Changes.{Alone, Ready};
-ghost use Rattle.search.specs.Search.{Searchable, Standing};
+ghost use Rattle.tree.specs.Changes.{Alone, Ready, Ordered};
+ghost use Rattle.search.specs.Search.{Searchable};
 
 #[no_mangle]
 pub extern "C" fn tree_plant(mem: &mut [u8], p: usize, key: u64, end: u64)
@@ -51,9 +51,9 @@ pub extern "C" fn tree_search(mem: &[u8], root: usize, r: u64, f: u64) -> u64
 }
 
 #[no_mangle]
-pub extern "C" fn tree_least(mem: &[u8], root: usize) -> u64
-    requires { ⌜ Standing (now mem) root ⌝ }
+pub extern "C" fn tree_remove_first(mem: &mut [u8], root: usize) -> tree::Cut
+    requires { ⌜ 1 ≤ nodeAt (now mem) root .height ⌝ }
+    requires { ⌜ Ordered (now mem) root ⌝ }
 {
-    let x = search::least(mem, root);
-    x.key
+    tree::remove_first(mem, root)
 }

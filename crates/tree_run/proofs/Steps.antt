@@ -19,7 +19,7 @@ use Rattle.node.proofs.Reps.{leaf-stands, tall}
 use Rattle.shape.specs.ChangeLaws.{fresh-once}
 use Rattle.tree.specs.declared.Cut.{Cut}
 use Rattle.tree.specs.Changes.{Alone, Sole, Ready, Fresh, Inserts, Removes, Sets}
-use Rattle.search.specs.Search.{Searchable, Standing}
+use Rattle.search.specs.Search.{Searchable}
 use Rattle.tree_run.specs.Grown.{Grown, Has}
 
 pub planted : (m m′ : List ℕ) (k e : ℕ) → 248 ≤ length m → Saved 0 (leafNode k e) m m′ → Has m′ 0 1 0

@@ -116,5 +116,5 @@ fn main() {
     say(look(&mem, root));
     let after = exchange(&mut mem, root);
     say(look(&mem, after));
-    say(search::least(&mem, after).end);
+    say(node::load(&mem, after).low);
 }

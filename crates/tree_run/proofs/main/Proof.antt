@@ -1,16 +1,10 @@
 -- `tree_run::main`: what grew is searched, exchanged and searched again. Assumes nothing.
 use native.Mathlib.Omega.{arith}
+use Rattle.node.proofs.Reps.{within}
 use Rattle.tree_run.proofs.Steps.{higher}
 use borrow.Author.Needs.{needs}
 use Rattle.tree_run.proofs.main.Statement.{statement}
 use Rattle.tree_run.proofs.main.Tie as tie
-use Rattle.tree_run.proofs.main.Reads as reads
-use Rattle.tree_run.proofs.main.Lts as lts
-use Rattle.search.proofs.least.Reads as least-reads
-use Rattle.tree_run.proofs.exchange.Reads as exchange-reads
-use Rattle.tree_run.proofs.grow.Reads as grow-reads
-use Rattle.tree_run.proofs.look.Reads as look-reads
-use Rattle.tree_run.proofs.say.Reads as say-reads
 
 slice-aggregate-grow : tie.Need-slice-aggregate-grow
 slice-aggregate-grow c = search needs
@@ -42,11 +36,11 @@ look-requires-2 c κs = search needs
 say-requires-2 : tie.Need-say-requires-2
 say-requires-2 c κs = search needs
 
-slice-aggregate-least : tie.Need-slice-aggregate-least
-slice-aggregate-least c = search needs
+slice-aggregate-load : tie.Need-slice-aggregate-load
+slice-aggregate-load c = search needs
 
-least-requires : tie.Need-least-requires
-least-requires c κs = search needs
+load-requires : tie.Need-load-requires
+load-requires c κs = within (c .before .before .before .before .before .exchange .ensures .1 .stands)
 
 say-requires-3 : tie.Need-say-requires-3
 say-requires-3 c κs = search needs
@@ -68,7 +62,7 @@ main-spec =
     slice-aggregate-look-2
     look-requires-2
     say-requires-2
-    slice-aggregate-least
-    least-requires
+    slice-aggregate-load
+    load-requires
     say-requires-3
     returns)
