@@ -1,11 +1,10 @@
-//! The archive against the model and the tree reader, call by call; and the program against the model.
+//! The archive against the model and the tree reader, call by call.
 
 use crate::archive::{Desk, Fence, PATTERN};
-use crate::generate::{Plan, Rng, Start, Step};
+use crate::plan::{Plan, Start, Step};
+use crate::random::Rng;
 use crate::layout::{build, whole, Crooked, Image};
-use crate::model::{idle_stretches, need, open, read, session, Acted, Link, Record, Seven, Tally, COUNT, OPEN_END};
-use std::io::{Read, Write};
-use std::process::{Command, Stdio};
+use crate::model::{idle_stretches, need, open, read, Acted, Link, Record, Seven, Tally, COUNT, OPEN_END};
 
 /// How often each code came (from opens, single orders, orders in runs, ends of runs, tells), and what else was looked at.
 #[derive(Clone, Default)]
@@ -317,98 +316,4 @@ fn remember(history: &mut Option<(u64, Vec<(u64, u64, u64)>)>, seven: &Seven) {
             bookings.push((*channel, *start, *finish));
         }
     }
-}
-
-// ---------------------------------------------------------------------------------------------------------- the program
-
-pub fn program_prints(program: &str, input: &[u8]) -> Result<String, String> {
-    let mut child = Command::new(program).stdin(Stdio::piped()).stdout(Stdio::piped()).spawn().map_err(|e| format!("{program}: {e}"))?;
-    let mut stdin = child.stdin.take().unwrap();
-    let _ = stdin.write_all(input); // a program that needs no more may close its end; at most 32,768 bytes, so a pipe holds them
-    drop(stdin);
-    let mut printed = String::new();
-    child.stdout.take().unwrap().read_to_string(&mut printed).map_err(|e| format!("{program}: {e}"))?;
-    let status = child.wait().map_err(|e| e.to_string())?;
-    if status.code().is_none() {
-        return Err(format!("{program} died: {status}"));
-    }
-    Ok(printed)
-}
-
-pub fn program(program: &str, pieces: &[Vec<u8>], seen: &mut Seen) -> Outcome {
-    let input = pieces.concat();
-    let want = session(&input);
-    let got = program_prints(program, &input)?;
-    if got != want {
-        let line = got.lines().zip(want.lines()).position(|(g, w)| g != w).unwrap_or(got.lines().count().min(want.lines().count()));
-        let (g, w) = (got.lines().nth(line), want.lines().nth(line));
-        return Err(format!("program, printed line {line}: the program says {g:?}, the model {w:?} ({} and {} bytes)", got.len(), want.len()));
-    }
-    for line in want.lines() {
-        let mut words = line.split(' ').skip(1);
-        match words.next() {
-            Some("R") => seen.program[words.next().unwrap().parse::<usize>().unwrap()] += 1,
-            Some("B") | Some("S") => seen.program[0] += 1,
-            _ => (),
-        }
-    }
-    Ok(())
-}
-
-// ---------------------------------------------------------------------------------------------------------- shrinking
-
-/// The same trouble with fewer steps: drops steps, then pieces of runs, while it still fails.
-pub fn shrink_plan(bench: &mut Bench, plan: &Plan) -> Plan {
-    let mut fails = |plan: &Plan| bench.archive(plan, &mut Seen::default()).is_err();
-    let mut plan = plan.clone();
-    let mut again = true;
-    while again {
-        again = false;
-        for i in (0..plan.steps.len()).rev() {
-            let mut less = plan.clone();
-            less.steps.remove(i);
-            if fails(&less) {
-                plan = less;
-                again = true;
-                continue;
-            }
-            let mut j = 0;
-            while let Step::Run { pieces, .. } = &plan.steps[i] {
-                if j >= pieces.len() {
-                    break;
-                }
-                let mut less = plan.clone();
-                if let Step::Run { pieces, .. } = &mut less.steps[i] {
-                    pieces.remove(j);
-                }
-                if fails(&less) {
-                    plan = less;
-                    again = true;
-                } else {
-                    j += 1;
-                }
-            }
-        }
-    }
-    plan
-}
-
-pub fn shrink_session(path: &str, pieces: &[Vec<u8>]) -> Vec<Vec<u8>> {
-    let fails = |pieces: &[Vec<u8>]| program(path, pieces, &mut Seen::default()).is_err();
-    let mut pieces = pieces.to_vec();
-    let mut chunk = pieces.len() / 2;
-    while chunk > 0 {
-        let mut i = 1;
-        while i < pieces.len() {
-            let mut less = pieces.clone();
-            less.drain(i..(i + chunk).min(pieces.len()));
-            if fails(&less) {
-                pieces = less;
-            } else {
-                i += chunk;
-            }
-        }
-        chunk /= 2;
-    }
-    pieces
 }

@@ -1,7 +1,8 @@
 //! 01's session and the starred lines of "On the edge", with the answers as 01 writes them: first the model, then the core.
 
 use crate::compare::{judge, Bench, Seen};
-use crate::generate::{ob, oc, ol, os, Rng};
+use crate::generate::{ob, oc, ol, os};
+use crate::random::Rng;
 use crate::layout::{build, Crooked};
 use crate::model::{need, session, Link, Seven, Void, COUNT, LAST_MOMENT, OPEN_END};
 

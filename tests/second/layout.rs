@@ -1,7 +1,7 @@
 //! The lent memory, read independently of the core: is it a whole link (01's code 2 and the layout in docs/), which voids does it
 //! hold, and how many nodes does 01's search visit. Also a builder that lays a link out with any tree shape and any places.
 
-use crate::generate::Rng;
+use crate::random::Rng;
 use crate::model::{need, settings_in_bounds, Link, Void, OPEN_END};
 
 pub const HEADER: usize = 26;

@@ -2,10 +2,15 @@
 
 mod archive;
 mod compare;
+mod damage;
 mod edges;
 mod generate;
 mod layout;
 mod model;
+mod plan;
+mod program;
+mod random;
+mod shrink;
 mod spoil;
 
 use compare::{Bench, Seen};
@@ -36,9 +41,9 @@ fn case(kind: u8, seed: u64, bench: &mut Bench, program: Option<&str>, totals: &
     match kind {
         b'a' => {
             *plans += 1;
-            let plan = generate::plan(seed);
+            let plan = plan::plan(seed);
             bench.archive(&plan, seen).map_err(|e| {
-                let small = compare::shrink_plan(bench, &plan);
+                let small = shrink::shrink_plan(bench, &plan);
                 let again = bench.archive(&small, &mut Seen::default()).err().unwrap_or(e);
                 format!("DIFFERENCE (again: second one archive {seed})\n{again}\nshrunk (numbers in hex): {}", short(&format!("{small:02X?}")))
             })
@@ -46,10 +51,10 @@ fn case(kind: u8, seed: u64, bench: &mut Bench, program: Option<&str>, totals: &
         b'p' => {
             *sessions += 1;
             let path = program.expect("--program PATH");
-            let pieces = generate::session(seed);
-            compare::program(path, &pieces, seen).map_err(|_| {
-                let small = compare::shrink_session(path, &pieces);
-                let again = compare::program(path, &small, &mut Seen::default()).err();
+            let pieces = plan::session(seed);
+            program::program(path, &pieces, seen).map_err(|_| {
+                let small = shrink::shrink_session(path, &pieces);
+                let again = program::program(path, &small, &mut Seen::default()).err();
                 format!("DIFFERENCE (again: second one program {seed})\n{again:?}\nshrunk (numbers in hex): {}", short(&format!("{small:02X?}")))
             })
         }
@@ -69,7 +74,7 @@ fn quick(program: Option<&str>, seed: u64, table: bool) -> Result<(), String> {
     edges::edges(bench, &mut totals.seen).map_err(|e| format!("DIFFERENCE at 01's own examples\n{e}"))?;
     if let Some(path) = program {
         let (input, _) = edges::session_of_01();
-        compare::program(path, &[input], &mut totals.seen).map_err(|e| format!("DIFFERENCE at 01's session\n{e}"))?;
+        program::program(path, &[input], &mut totals.seen).map_err(|e| format!("DIFFERENCE at 01's session\n{e}"))?;
     }
     for i in 0..6_000 {
         case(b'a', seed + i, bench, program, &mut totals)?;

@@ -13,7 +13,7 @@ use Rattle.rule.specs.Fit.{hold, hold-least, free}
 use Rattle.rule.specs.Starts.{starts}
 use Rattle.rule.specs.Order.{booking}
 use Rattle.rule.specs.Key.{startOf, channelOf}
-use Rattle.rule.specs.Codes.{bookingCode, tooMany}
+use Rattle.rule.specs.Codes.{bookingCode}
 use Rattle.rule.specs.Answer.{booked, refused, seven, numbersOf}
 use Rattle.rule.specs.declared.answer.Answer.{Answer}
 use Rattle.shape.specs.Tree.{size}
@@ -60,10 +60,10 @@ module _ (s : State) (l : ℕ) (y : Seeking) where
   book-none q = rw q
 
   module _ (i b p k e : ℕ) (q : y .out ≡ found i b p k e) where
-    book-full : tooMany (s .settings) (s .floor) (size (s .tree)) l b (startOf k) e ≡ true → bookFound s l y ≡ record { reply = refused 8; count = y .count; after = s }
+    book-full : overfull s k e b (free b (hold (s .settings) l)) ≡ true → bookFound s l y ≡ record { reply = refused 8; count = y .count; after = s }
     book-full full = rw (q, full)
 
-    book-some : tooMany (s .settings) (s .floor) (size (s .tree)) l b (startOf k) e ≡ false
+    book-some : overfull s k e b (free b (hold (s .settings) l)) ≡ false
         → bookFound s l y ≡ record { reply = booked (channelOf k) i b (b + l); count = y .count; after = split s k e b (free b (hold (s .settings) l)) }
     book-some few = rw (q, few)
 
@@ -127,7 +127,7 @@ module _ (m : List ℕ) (r l p floor lines code : ℕ) (ef : floor ≡ word m 4)
         finish-low w = omega (arith, free-low w, hold-least (w .0 .settings) l, eh (w .0 .settings))
 
         module _ (b : Bool) (eb : (s : State) → Holds m s → b ≡ overfull s (x .key) (x .end) (x .start) (x .start + h)) where
-          full-is : (s : State) → Holds m s → tooMany (s .settings) (s .floor) (size (s .tree)) l (x .start) (startOf (x .key)) (x .end) ≡ b
+          full-is : (s : State) → Holds m s → overfull s (x .key) (x .end) (x .start) (free (x .start) (hold (s .settings) l)) ≡ b
           full-is s H = sym (rw (eh (s .settings)) at (eb s H))
 
           pub no-room : b ≡ true → (a : Answer) → numbersOf a ≡ seven (refused 8) (x .count) → (s : State) → Sound s → Holds m s → Books r l p a m m s

@@ -3,13 +3,11 @@ use mathlib.Core.Path.{_≡_}
 use mathlib.Core.List.{List}
 use mathlib.Core.Bool.{Bool, true, false}
 use Prim.Native.Nat.{ℕ}
-use lib.Dec.{leb, eqb}
-use Rattle.numbers.specs.Case.{pick}
-use Rattle.rule.specs.Kept.{pieces}
 use Rattle.rule.specs.Key.{startOf}
 use Rattle.shape.specs.Tree.{size, In}
 use Rattle.rule.specs.Order.{booking}
 use Rattle.rule.specs.Starts.{starts}
+use Rattle.rule.specs.Codes.{tooMany}
 use Rattle.rule.specs.Answer.{seven, numbersOf}
 use Rattle.rule.specs.declared.answer.Answer.{Answer}
 use Rattle.state.specs.State.{State}
@@ -43,9 +41,9 @@ Splittable k e r f m = (s : State) × Splitting s k e r f × Holds m s
 abbrev pub Splits : (k e r f : ℕ) → (m m′ : List ℕ) → Type 0
 Splits k e r f m m′ = (s : State) → Splitting s k e r f → Holds m s → After m m′ (split s k e r f)
 
--- "the void taken leaves two pieces and the room is full", as the rule's `tooMany` has it for a start already chosen
+-- "the void taken leaves two pieces and the room is full": the rule's test, of the state
 abbrev pub overfull : State → (k e r f : ℕ) → Bool
-overfull s k e r f = pick (eqb (pieces (s .floor) (startOf k) e r f) 2) (leb (s .settings .room) (size (s .tree))) false
+overfull s k e r f = tooMany (s .settings) (s .floor) (size (s .tree)) r f (startOf k) e
 
 -- the answer in 01's seven numbers, and the memory after
 pub record Books (r l lines : ℕ) (a : Answer) (m m′ : List ℕ) (s : State) : Type 0 where

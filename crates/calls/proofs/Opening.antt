@@ -11,7 +11,7 @@ use lib.Dec.{ltb}
 use lib.ListN.{length, take}
 use Rattle.numbers.specs.Case.{pick, case-le}
 use Rattle.rule.specs.Moments.{lastMoment}
-use Rattle.rule.specs.Settings.{Settings, mostLines, inBounds}
+use Rattle.rule.specs.Settings.{Settings, mostLines, settings, inBounds}
 use Rattle.rule.specs.SettingsLaws.{in-bounds}
 use Rattle.order.specs.declared.Record.{Record}
 use Rattle.order.specs.declared.Record.the-variants.{Opening as Read, Booking, Sweep, Refused}
@@ -21,7 +21,7 @@ use Rattle.order.specs.Read.{meant, Narrow, Reads}
 use Rattle.order.specs.Delays.{delays-length}
 use Rattle.state.specs.Open.{fresh}
 use Rattle.memory.specs.Holds.{After}
-use Rattle.opening.specs.Opening.{settings, openingCode, Opens as Codes}
+use Rattle.opening.specs.Opening.{openingCode, Opens as Codes}
 use Rattle.calls.specs.declared.open.Opened.{Opened}
 use Rattle.calls.specs.Opens.{settingsOf, OpensAs, OpensRead, Opens}
 

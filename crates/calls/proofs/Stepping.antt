@@ -16,7 +16,7 @@ use Rattle.rule.specs.declared.answer.Answer.{Answer}
 use Rattle.rule.specs.Moments.{lastMoment}
 use Rattle.rule.specs.Settings.{longest}
 use Rattle.rule.specs.Order.{Order, booking, sweep}
-use Rattle.rule.specs.Fit.{hold}
+use Rattle.rule.specs.Fit.{hold, free}
 use Rattle.rule.specs.Starts.{starts}
 use Rattle.rule.specs.Choice.{Choice, nothing, taken}
 use Rattle.rule.specs.Answer.{Reply, booked, swept, refused, seven, numbersOf}
@@ -64,7 +64,7 @@ booking-row s r l m = go (bookingCode (s .settings) (s .floor) r l m)
   where
     by : (o : Choice) → rowAt (codeOf (chosenReply (s .settings) (s .floor) (size (s .tree)) l o)) 0 ≡ rowOf (chosenReply (s .settings) (s .floor) (size (s .tree)) l o)
     by nothing = refl
-    by (taken i b c u e) = chosen-row (tooMany (s .settings) (s .floor) (size (s .tree)) l b u e) c i b (b + l)
+    by (taken i b c u e) = chosen-row (tooMany (s .settings) (s .floor) (size (s .tree)) b (free b (hold (s .settings) l)) u e) c i b (b + l)
 
     go : (x : ℕ) → rowAt (codeOf ((bookAs x s r l m) .reply)) 0 ≡ rowOf ((bookAs x s r l m) .reply)
     go zero = by (choice ((seek (s .tree) (hold (s .settings) l) (starts (s .settings .delays) r (hold (s .settings) l) m)) .out))

@@ -3,11 +3,11 @@ use mathlib.Core.Path.{_≡_}
 use mathlib.Core.List.{List}
 use Prim.Native.Nat.{ℕ, zero, suc}
 use lib.ListN.{length}
-use Rattle.rule.specs.Settings.{Settings}
+use Rattle.rule.specs.Settings.{Settings, settings}
 use Rattle.order.specs.Records.{Reading, unread, opening, order, Opening, reading}
 use Rattle.state.specs.Open.{fresh}
 use Rattle.memory.specs.Holds.{After}
-use Rattle.opening.specs.Opening.{settings, openingCode}
+use Rattle.opening.specs.Opening.{openingCode}
 use Rattle.calls.specs.declared.open.Opened.{Opened}
 
 abbrev pub settingsOf : (room : ℕ) → Opening → Settings

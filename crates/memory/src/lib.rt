@@ -1,9 +1,11 @@
 // A link's state in lent memory: header, tree, spare places; the three steps that change it.
 // Above this crate nobody speaks of places.
 ghost use mathlib.Core.Path.{_≡_};
-ghost use Prim.Native.Nat.{_<_};
+ghost use Prim.Native.Nat.{_≤_, _<_};
 ghost use Rattle.numbers.specs.Words.{word, store};
+ghost use Rattle.rule.specs.Settings.{mostRoom};
 ghost use Rattle.node.specs.Layout.{Within, nodeAt, Saved};
+ghost use Rattle.memory.specs.Header.{need};
 ghost use Rattle.memory.specs.Holds.{spareNode};
 ghost use Rattle.memory.specs.Steps.{Some, Noted, Roomy, Several, Clearable, Taken, GivesBack, Shortens, Adds, Drops, DropsFirst, Refloors};
 use numbers::words::get;
@@ -131,4 +133,13 @@ pub fn refloor(mem: &mut [u8], moment: u64)
     ensures { λ _. ⌜ Refloors moment (now (mem .entry)) (now (mem .exit)) ⌝ }
 {
     put(mem, FLOOR, moment);
+}
+
+// The bytes that a link with that room needs.
+pub fn need(room: u64) -> usize
+    requires { ⌜ room ≤ mostRoom ⌝ }
+    ensures { λ n. ⌜ n ≡ need room ⌝ }
+{
+    let places = (2 * room + 1) as usize;
+    node::HEADER_BYTES + node::NODE_BYTES * places
 }

@@ -9,9 +9,9 @@ use lib.ListN.{length, getD}
 use Rattle.numbers.specs.Words.{word, store}
 use Rattle.numbers.proofs.WordLaws.{word-other, word-same, byte-other, length-store}
 use Rattle.node.specs.declared.Node.{Node}
-use Rattle.node.specs.Layout.{base, Within, nodeAt, summedNode, withSums, sumsSaved, SameSums, Saved, Summable, Summed, Sums}
+use Rattle.node.specs.Layout.{base, Within, Fits, nodeAt, linksOf, saved, summedNode, withSums, sumsSaved, SameSums, Saved, Summable, Summed, Sums}
 use Rattle.node.proofs.Frames.{kept-none}
-use Rattle.node.proofs.Nodes.{Words, off}
+use Rattle.node.proofs.Nodes.{Words, off, saved-saved}
 
 -- a node that says the same as its children summed up is what summing it up gives
 alike-is : (n x y : Node) → SameSums n (summedNode n x y) → n ≡ summedNode n x y
@@ -70,6 +70,11 @@ pub sums-written : (m : List ℕ) (p : ℕ) (n : Node) → Within m p → Words 
 unfolding sumsSaved
 sums-written m p n i w =
     record { at = node-sums m p n i w; kept = record { len = simp length-store; byte = λ b h. byte-sums m p n b (off m p n b h) } }
+
+-- and the fifth: height and places
+pub saved-of : (m m1 m2 : List ℕ) (p : ℕ) (n : Node) → m1 ≡ sumsSaved m p n → m2 ≡ store m1 (base p + 4) (linksOf n) → Within m p → Fits n → Words n → Saved p n m m2
+unfolding sumsSaved saved
+saved-of m m1 m2 p n e1 e2 i f w = rw (e2, e1) (saved-saved m p n i f w)
 
 module _ (m : List ℕ) (p : ℕ) (n x y s : Node) (en : n ≡ nodeAt m p) (ex : x ≡ nodeAt m (n .left)) (ey : y ≡ nodeAt m (n .right)) (es : s ≡ summedNode n x y) where
   -- the children are inside

@@ -1,10 +1,21 @@
-// A node of the tree in lent memory: five words, after a header of 26 words (docs/ARCHITECTURE.md).
+// A node of the tree in lent memory: its words, after the header (docs/ARCHITECTURE.md).
 // Above this crate nobody speaks of a node's words: only of the node at a place.
 ghost use mathlib.Core.Path.{_≡_};
 ghost use mathlib.Core.Bool.{true};
 ghost use mathlib.Core.Logic.{_↔_};
-ghost use Prim.Native.Nat.{_+_, _*_, _≤_, _<_, min, max};
-ghost use Rattle.node.specs.Layout.{Within, Fits, nodeAt, leafNode, overNode, summedNode, withSums, SameSums, Saved, Over, Mendable, Summable, Sums};
+ghost use Prim.Native.Nat.{_+_, _*_, _≤_, _<_};
+ghost use Rattle.node.specs.Layout.{Within, Fits, nodeAt, leafNode, overNode, summedNode, withSums, sumsSaved, SameSums, Saved, Over, Mendable, Summable, Sums};
+use numbers::pairs::larger;
+use numbers::pairs::smaller;
+
+// The layout: the words and bytes of the header, and those of each node after it.
+pub const HEADER_WORDS: usize = 26;
+
+pub const HEADER_BYTES: usize = 8 * HEADER_WORDS;
+
+pub const NODE_WORDS: usize = 5;
+
+pub const NODE_BYTES: usize = 8 * NODE_WORDS;
 
 pub struct Node {
     pub height: u64,
@@ -14,18 +25,6 @@ pub struct Node {
     pub low: u64,
     pub left: u64,
     pub right: u64,
-}
-
-fn larger(a: u64, b: u64) -> u64
-    ensures { λ r. ⌜ r ≡ max a b ⌝ }
-{
-    if a < b { b } else { a }
-}
-
-fn smaller(a: u64, b: u64) -> u64
-    ensures { λ r. ⌜ r ≡ min a b ⌝ }
-{
-    if a < b { a } else { b }
 }
 
 // The node of a void with that key and end.
@@ -43,63 +42,6 @@ pub fn leaf(key: u64, end: u64) -> Node
     }
 }
 
-// The node over two others, which stand at l and r.
-fn over(x: Node, y: Node, l: u64, r: u64) -> Node
-    requires { ⌜ (x .height < 4294967295) × (y .height < 4294967295) ⌝ }
-    ensures { λ n. ⌜ n ≡ overNode x y l r ⌝ }
-{
-    Node {
-        height: larger(x.height, y.height) + 1,
-        lo: x.lo,
-        split: y.lo,
-        top: larger(x.top, y.top),
-        low: smaller(x.low, y.low),
-        left: l,
-        right: r,
-    }
-}
-
-// The node at place p.
-pub fn load(mem: &[u8], p: usize) -> Node
-    requires { ⌜ Within (now mem) p ⌝ }
-    ensures { λ n. ⌜ n ≡ nodeAt (now (mem .entry)) p ⌝ }
-{
-    let b = 5 * p + 26;
-    let links = numbers::words::get(mem, b + 4);
-    Node {
-        height: links / 4294967296,
-        lo: numbers::words::get(mem, b),
-        split: numbers::words::get(mem, b + 1),
-        top: numbers::words::get(mem, b + 2),
-        low: numbers::words::get(mem, b + 3),
-        left: links / 65536 % 65536,
-        right: links % 65536,
-    }
-}
-
-// Makes n the node at place p.
-pub fn save(mem: &mut [u8], p: usize, n: Node)
-    requires { ⌜ Within (now mem) p ⌝ }
-    requires { ⌜ Fits n ⌝ }
-    ensures { λ _. ⌜ Saved p n (now (mem .entry)) (now (mem .exit)) ⌝ }
-{
-    let b = 5 * p + 26;
-    numbers::words::put(mem, b, n.lo);
-    numbers::words::put(mem, b + 1, n.split);
-    numbers::words::put(mem, b + 2, n.top);
-    numbers::words::put(mem, b + 3, n.low);
-    numbers::words::put(mem, b + 4, n.height * 4294967296 + n.left * 65536 + n.right);
-}
-
-// Writes the node p over the nodes l and r.
-pub fn mend(mem: &mut [u8], p: usize, l: usize, r: usize)
-    requires { ⌜ Mendable (now mem) p l r ⌝ }
-    ensures { λ _. ⌜ Over p l r (now (mem .entry)) (now (mem .exit)) ⌝ }
-{
-    let n = over(load(mem, l), load(mem, r), l as u64, r as u64);
-    save(mem, p, n);
-}
-
 // The node n over two others, its sums taken anew.
 fn summed(n: Node, x: Node, y: Node) -> Node
     ensures { λ s. ⌜ s ≡ summedNode n x y ⌝ }
@@ -115,16 +57,71 @@ fn summed(n: Node, x: Node, y: Node) -> Node
     }
 }
 
+// The node over two others, which stand at l and r.
+fn over(x: Node, y: Node, l: u64, r: u64) -> Node
+    requires { ⌜ (x .height < 4294967295) × (y .height < 4294967295) ⌝ }
+    ensures { λ n. ⌜ n ≡ overNode x y l r ⌝ }
+{
+    let bare = Node {
+        height: larger(x.height, y.height) + 1,
+        lo: 0,
+        split: 0,
+        top: 0,
+        low: 0,
+        left: l,
+        right: r,
+    };
+    summed(bare, x, y)
+}
+
+// The node at place p.
+pub fn load(mem: &[u8], p: usize) -> Node
+    requires { ⌜ Within (now mem) p ⌝ }
+    ensures { λ n. ⌜ n ≡ nodeAt (now (mem .entry)) p ⌝ }
+{
+    let b = NODE_WORDS * p + HEADER_WORDS;
+    let links = numbers::words::get(mem, b + 4);
+    Node {
+        height: links / 4294967296,
+        lo: numbers::words::get(mem, b),
+        split: numbers::words::get(mem, b + 1),
+        top: numbers::words::get(mem, b + 2),
+        low: numbers::words::get(mem, b + 3),
+        left: links / 65536 % 65536,
+        right: links % 65536,
+    }
+}
+
 // Writes the sums of n at place p; height and places stay.
 fn save_sums(mem: &mut [u8], p: usize, n: Node)
     requires { ⌜ Within (now mem) p ⌝ }
-    ensures { λ _. ⌜ Saved p (withSums n (nodeAt (now (mem .entry)) p)) (now (mem .entry)) (now (mem .exit)) ⌝ }
+    ensures { λ _. ⌜ (now (mem .exit) ≡ sumsSaved (now (mem .entry)) p n) × Saved p (withSums n (nodeAt (now (mem .entry)) p)) (now (mem .entry)) (now (mem .exit)) ⌝ }
 {
-    let b = 5 * p + 26;
+    let b = NODE_WORDS * p + HEADER_WORDS;
     numbers::words::put(mem, b, n.lo);
     numbers::words::put(mem, b + 1, n.split);
     numbers::words::put(mem, b + 2, n.top);
     numbers::words::put(mem, b + 3, n.low);
+}
+
+// Makes n the node at place p.
+pub fn save(mem: &mut [u8], p: usize, n: Node)
+    requires { ⌜ Within (now mem) p ⌝ }
+    requires { ⌜ Fits n ⌝ }
+    ensures { λ _. ⌜ Saved p n (now (mem .entry)) (now (mem .exit)) ⌝ }
+{
+    save_sums(mem, p, n);
+    let b = NODE_WORDS * p + HEADER_WORDS;
+    numbers::words::put(mem, b + 4, n.height * 4294967296 + n.left * 65536 + n.right);
+}
+
+// Writes the node p over the nodes l and r.
+pub fn mend(mem: &mut [u8], p: usize, l: usize, r: usize)
+    requires { ⌜ Mendable (now mem) p l r ⌝ }
+    ensures { λ _. ⌜ Over p l r (now (mem .entry)) (now (mem .exit)) ⌝ }
+{
+    let n = over(load(mem, l), load(mem, r), l as u64, r as u64);
+    save(mem, p, n);
 }
 
 // Whether two nodes say the same of what is below them.

@@ -10,7 +10,7 @@ use lib.Seq.{getD-set-same, set-set}
 use Rattle.numbers.specs.Words.{word, store}
 use Rattle.numbers.proofs.WordLaws.{word-other, word-same, length-store}
 use Rattle.rule.specs.Moments.{openEnd}
-use Rattle.rule.specs.Settings.{mostRoom, mostLines}
+use Rattle.rule.specs.Settings.{mostRoom, mostLines, settings}
 use Rattle.rule.specs.Key.{keyOf}
 use Rattle.shape.specs.Tree.{leaf, same}
 use Rattle.shape.specs.PlaceLaws.{same-other, same-most}
@@ -26,7 +26,6 @@ use Rattle.memory.specs.Holds.{spareNode, Spares, Past, After}
 use Rattle.memory.specs.Part.{Part}
 use Rattle.memory.proofs.Parts.{below-is, past-none, past-then, past-store, past-kept, heads-put, padded-at, length-padded, closed}
 use Rattle.memory.proofs.Dropping.{given}
-use Rattle.opening.specs.Opening.{settings}
 use Rattle.opening.specs.Stages.{Tail, bareHeader, Draft, Laid}
 
 -- ---- the delays

@@ -1,4 +1,3 @@
-pub mod Bounding
 pub mod Beginning
 pub mod Widening
 pub mod Answering

@@ -11,9 +11,6 @@ use Rattle.state.specs.Open.{fresh}
 use Rattle.memory.specs.Header.{need}
 use Rattle.memory.specs.Holds.{After}
 
-abbrev pub settings : (room channels leap : ℕ) → (delays : List ℕ) → Settings
-settings room channels leap delays = record { channels = channels; delays = delays; leap = leap; room = room }
-
 -- "a bound above is broken, or the lent memory is smaller than the stated need"
 abbrev pub openingCode : Settings → (bytes : ℕ) → ℕ
 openingCode g bytes = firstCode ((not (inBounds g), 1) ∷ (ltb bytes (need (g .room)), 1) ∷ [])

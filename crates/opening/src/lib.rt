@@ -2,10 +2,10 @@
 ghost use mathlib.Core.Path.{_≡_};
 ghost use Prim.Native.Nat.{_≤_};
 ghost use Rattle.rule.specs.Moments.{lastMoment};
-ghost use Rattle.opening.specs.Opening.{settings, Opens};
+ghost use Rattle.rule.specs.Settings.{settings};
+ghost use Rattle.opening.specs.Opening.{Opens};
 ghost use Rattle.opening.specs.Stages.{Narrow, Widens};
 
-pub mod bounds;
 pub mod single;
 
 // A link of one channel gets the others, each with its void.
@@ -26,10 +26,10 @@ pub fn open(mem: &mut [u8], room: u64, channels: u64, leap: u64, floor: u64, del
     requires { ⌜ floor ≤ lastMoment ⌝ }
     ensures { λ code. ⌜ Opens (settings room channels leap (now (delays .entry))) floor (now (mem .entry)) (now (mem .exit)) code ⌝ }
 {
-    if !bounds::in_bounds(room, channels, leap, delays) {
+    if !rule::bounds::in_bounds(room, channels, leap, delays) {
         return 1;
     }
-    if mem.len() < (80 * room + 248) as usize {
+    if mem.len() < memory::need(room) {
         return 1;
     }
     single::open_single(mem, room, leap, floor, delays);

@@ -4,11 +4,10 @@ ghost use Prim.Native.Nat.{_+_, _*_, _≤_, _<_};
 ghost use lib.ListN.{length, getD};
 ghost use Rattle.numbers.specs.Words.{word};
 ghost use Rattle.rule.specs.Moments.{lastMoment};
-ghost use Rattle.rule.specs.Settings.{mostLines, mostRoom};
+ghost use Rattle.rule.specs.Settings.{mostLines, mostRoom, settings};
 ghost use Rattle.state.specs.Open.{single};
 ghost use Rattle.memory.specs.Header.{need};
 ghost use Rattle.memory.specs.Holds.{After};
-ghost use Rattle.opening.specs.Opening.{settings};
 ghost use Rattle.opening.specs.Stages.{Tail, bareHeader, Draft, Laid};
 use numbers::words::put;
 

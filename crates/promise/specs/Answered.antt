@@ -47,7 +47,7 @@ Tries W T g floor m l (x ∷ xs) t n a =
     let f = free r (hold g l) in
     let k = n + (published r f T) .visits in
     (NoFit W r f × Tries W T g floor m l xs (suc t) k a)
-    ⊎ ((c : ℕ) × (s : ℕ) × (e : ℕ) × MinSV W r f c s e × Bounded m (suc t) k × (a ≡ pick (tooMany g floor m l r s e) (refusal 8 k) (0 ∷ c ∷ x .line ∷ r ∷ (r + l) ∷ k ∷ 0 ∷ [])))
+    ⊎ ((c : ℕ) × (s : ℕ) × (e : ℕ) × MinSV W r f c s e × Bounded m (suc t) k × (a ≡ pick (tooMany g floor m r f s e) (refusal 8 k) (0 ∷ c ∷ x .line ∷ r ∷ (r + l) ∷ k ∷ 0 ∷ [])))
 
 -- a booking that none of the codes 3 to 6 refuses
 abbrev pub Booked : Voids → Settings → (floor r l p : ℕ) → (numbers : List ℕ) → Type 0

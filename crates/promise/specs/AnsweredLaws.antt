@@ -119,7 +119,7 @@ module _ (a b : ℕ) (T : Tree) (o : Ord a b T) (B : Balanced T) (W : Voids) (f 
         e,
         min-sv-as (VoidsIn T) W f r k (channelOf j) (startOf j) e (search-taken a b r k T o p j e q),
         bounded r k t n h,
-        taken-seven (tooMany g floor (size T) l r (startOf j) e) (channelOf j) (x .line) r (r + l) (n + v),
+        taken-seven (tooMany g floor (size T) r k (startOf j) e) (channelOf j) (x .line) r (r + l) (n + v),
       ))
 
 -- ---- a sound link, whose voids are W

@@ -82,7 +82,7 @@ module _ (W : Voids) (d : OneEnd W) (g : Settings) (floor : ℕ) where
   tries-one T U m l (x ∷ xs) t n k a b (inr (c, s, e, M, B, q)) (inr (c′, s′, e′, M′, B′, q′)) =
       let f = free (x .moment) (hold g l) in
       let o = min-sv-one W d (x .moment) f c s e c′ s′ e′ M M′ in
-      rw (q, q′, ← o .0, ← o .1, ← o .2) (picked-alike (tooMany g floor m l (x .moment) s e) c (x .line) (x .moment) (x .moment + l) (n + (published (x .moment) f T) .visits) (k + (published (x .moment) f U) .visits))
+      rw (q, q′, ← o .0, ← o .1, ← o .2) (picked-alike (tooMany g floor m (x .moment) f s e) c (x .line) (x .moment) (x .moment + l) (n + (published (x .moment) f T) .visits) (k + (published (x .moment) f U) .visits))
 
   -- any two answers are the same but for the count
   pub answered-one : (o : Order) (a b : List ℕ) → Answered g floor W o a → Answered g floor W o b → Alike a b

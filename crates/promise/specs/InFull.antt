@@ -6,7 +6,7 @@ use Prim.Native.Nat.{ℕ}
 use lib.ListN.{length, getD}
 use Rattle.numbers.specs.Digits.{goesOn, digits}
 use Rattle.rule.specs.declared.tally.Tally.{Tally}
-use Rattle.rule.specs.Settings.{Settings}
+use Rattle.rule.specs.Settings.{Settings, settings}
 use Rattle.rule.specs.Fit.{hold}
 use Rattle.rule.specs.Kept.{least}
 use Rattle.rule.specs.Counts.{counts, up, raised}
@@ -17,7 +17,7 @@ use Rattle.state.specs.State.{shorten, add, drop}
 use Rattle.state.specs.Act.{split}
 use Rattle.state.specs.Open.{widen, fresh}
 use Rattle.memory.specs.Header.{need}
-use Rattle.opening.specs.Opening.{settings, openingCode}
+use Rattle.opening.specs.Opening.{openingCode}
 use Rattle.calls.specs.Run.{Ran, runOn}
 
 -- OL with 2 channels, 1 line, leap 1000, floor 0, delay 5

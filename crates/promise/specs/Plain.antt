@@ -9,7 +9,7 @@ use native.Mathlib.Omega.{arith}
 use lib.ListN.{length, getD, take, drop}
 use Rattle.numbers.specs.Case.{pick}
 use Rattle.rule.specs.Settings.{Settings}
-use Rattle.rule.specs.Fit.{hold}
+use Rattle.rule.specs.Fit.{hold, free}
 use Rattle.rule.specs.Starts.{Start, starts}
 use Rattle.rule.specs.Voids.{Voids, Has, Meaning}
 use Rattle.rule.specs.Choice.{Choice, nothing, taken, Chosen}
@@ -50,7 +50,7 @@ booked-fitted M N r l p y n R z = go (bookingCode (M .settings) (M .floor) r l p
 
     by : (o : Choice) → Chosen (Has (M .voids)) (hold (M .settings) l) (startsOf (M .settings) r l p) o → Is (chosenReply (M .settings) (M .floor) (length (M .voids)) l o)
     by nothing c = λ h. absurd (omega arith)
-    by (taken i b k s e) c = two (tooMany (M .settings) (M .floor) (length (M .voids)) l b s e)
+    by (taken i b k s e) c = two (tooMany (M .settings) (M .floor) (length (M .voids)) b (free b (hold (M .settings) l)) s e)
       where
         two : (t : Bool) → Is (pick t (refused 8) (booked k i b (b + l)))
         two true = λ h. absurd (omega arith)

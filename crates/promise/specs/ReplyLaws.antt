@@ -49,7 +49,7 @@ sweep-codes g floor moment x = go (ltb moment floor) (ltb (floor + g .leap) mome
 
 chosen-apt : (g : Settings) (floor n l r k m : ℕ) (o : Choice) → Apt (booking r k m) (chosenReply g floor n l o)
 chosen-apt g floor n l r k m nothing = omega arith
-chosen-apt g floor n l r k m (taken i b c s e) = go (tooMany g floor n l b s e)
+chosen-apt g floor n l r k m (taken i b c s e) = go (tooMany g floor n b (free b (hold g l)) s e)
   where
     go : (t : Bool) → Apt (booking r k m) (pick t (refused 8) (booked c i b (b + l)))
     go true = omega arith

@@ -48,11 +48,11 @@ module _ (W : Voids) (T : Tree) (g : Settings) (floor m l : ℕ) (x : Start) (t 
 
   one-start : Tries W T g floor m l (x ∷ []) t n a → getD a 0 0 ≡ 0 → (s : ℕ) × (e : ℕ) × MinSV W (x .moment) (free (x .moment) (hold g l)) (getD a 1 0) s e
   one-start (inl y) z = absurd (omega (arith, z, ap (λ b. getD b 0 0) (y .1 .0)))
-  one-start (inr (c, s, e, M, B, q)) z = elim (picked (tooMany g floor m l (x .moment) s e) visited c (x .line) (x .moment) (x .moment + l) a q) [ inl h ↦ absurd (omega (arith, z, h)) | inr h ↦ (s, e, rw (h .1) M) ]
+  one-start (inr (c, s, e, M, B, q)) z = elim (picked (tooMany g floor m (x .moment) (free (x .moment) (hold g l)) s e) visited c (x .line) (x .moment) (x .moment + l) a q) [ inl h ↦ absurd (omega (arith, z, h)) | inr h ↦ (s, e, rw (h .1) M) ]
 
   none-fits : Tries W T g floor m l (x ∷ []) t n a → getD a 0 0 ≡ 7 → NoFit W (x .moment) (free (x .moment) (hold g l))
   none-fits (inl y) z = y .0
-  none-fits (inr (c, s, e, M, B, q)) z = elim (picked (tooMany g floor m l (x .moment) s e) visited c (x .line) (x .moment) (x .moment + l) a q) [ inl h ↦ absurd (omega (arith, z, h)) | inr h ↦ absurd (omega (arith, z, h .0)) ]
+  none-fits (inr (c, s, e, M, B, q)) z = elim (picked (tooMany g floor m (x .moment) (free (x .moment) (hold g l)) s e) visited c (x .line) (x .moment) (x .moment + l) a q) [ inl h ↦ absurd (omega (arith, z, h)) | inr h ↦ absurd (omega (arith, z, h .0)) ]
 
 -- at the opening channel 0 is idle for ever
 idle-at-first : Stretches 0 2 [] 0 0 openEnd
@@ -123,5 +123,5 @@ shut-out = record {
     one-count W T g floor m l (x ∷ xs) t n a b (inr (c, s, e, M, B, q)) (inl v) = absurd (v .0 c s e (M .void) (M .fits))
     one-count W T g floor m l (x ∷ xs) t n a b (inr (c, s, e, M, B, q)) (inr (c′, s′, e′, M′, B′, q′)) =
         let k = n + (published (x .moment) (free (x .moment) (hold g l)) T) .visits in
-        counted (tooMany g floor m l (x .moment) s e) k c (x .line) (x .moment) (x .moment + l) a q
-        ∙ sym (counted (tooMany g floor m l (x .moment) s′ e′) k c′ (x .line) (x .moment) (x .moment + l) b q′)
+        counted (tooMany g floor m (x .moment) (free (x .moment) (hold g l)) s e) k c (x .line) (x .moment) (x .moment + l) a q
+        ∙ sym (counted (tooMany g floor m (x .moment) (free (x .moment) (hold g l)) s′ e′) k c′ (x .line) (x .moment) (x .moment + l) b q′)

@@ -35,6 +35,7 @@ use Rattle.calls.specs.Run.{stepOn, runOn, flat}
 use Rattle.calls.specs.Calls.{Acts, Runs, Tells}
 use Rattle.promise.specs.Orders.{ordersIn, sevens}
 use Rattle.promise.specs.RunLaws.{run-is-orders}
+use Rattle.promise.specs.ReplyLaws.{Apt, act-apt}
 use Rattle.promise.specs.Sevens.{seven-take, seven-drop}
 use Rattle.promise.specs.Memories.{acts-on, runs-on, tells-of}
 
@@ -71,17 +72,27 @@ order-count s W (booking r l p) = (act-count s W r l p, (λ h. go (bookingCode (
     go (suc x) q h = refused-count s r l p x q
 order-count s W (sweep moment) = sweep-count s moment
 
-seven-count : (y : Reply) (n : ℕ) → getD (seven y n) 5 0 ≡ n
-seven-count (booked c i r f) n = refl
-seven-count (swept d) n = refl
-seven-count (refused x) n = refl
+-- the sixth of an answer's seven numbers is its count: a sweep's is 0
+booking-seven : (r l p : ℕ) (y : Reply) (n : ℕ) → Apt (booking r l p) y → getD (seven y n) 5 0 ≡ n
+booking-seven r l p (booked c i b f) n a = refl
+booking-seven r l p (swept d) n a = absurd a
+booking-seven r l p (refused x) n a = refl
+
+none-seven : (y : Reply) → getD (seven y 0) 5 0 ≡ 0
+none-seven (booked c i r f) = refl
+none-seven (swept d) = refl
+none-seven (refused x) = refl
+
+seven-count : (s : State) (o : Order) → getD (seven ((act s o) .reply) ((act s o) .count)) 5 0 ≡ (act s o) .count
+seven-count s (booking r l p) = booking-seven r l p ((act s (booking r l p)) .reply) ((act s (booking r l p)) .count) (act-apt s (booking r l p))
+seven-count s (sweep moment) = rw (sweep-count s moment) (none-seven ((act s (sweep moment)) .reply))
 
 pub orders-count : (s : State) (os : List Order) (rest : List ℕ) → Sound s → AllInRange os → CountsOf s os (flat (sevens s os) ++ rest)
 orders-count s [] rest W a = tt
 orders-count s (o ∷ os) rest W a =
     let y = act s o in
     let xs = flat (sevens (y .after) os) in (
-      rw (seven-take (y .count) xs rest (y .reply), seven-count (y .reply) (y .count)) (order-count s W o),
+      rw (seven-take (y .count) xs rest (y .reply), seven-count s o) (order-count s W o),
       rw (seven-drop (y .count) xs rest (y .reply)) (orders-count (y .after) os rest (act-sound s W o (a .0)) (a .1)),
     )
 
@@ -92,7 +103,7 @@ module _ (m : List ℕ) (s : State) (W : Sound s) (H : Holds m s) where
   act-counts t bytes m′ d a n o q =
       let A = acts-on t bytes m m′ d a s W H in
       let B : numbersOf (d .acted .answer) ≡ (stepOn s t (order n o)) .numbers = A .numbers ∙ ap (λ z. (stepOn s t z) .numbers) q in
-      let e : d .acted .answer .count ≡ (act s o) .count = ap (λ l. getD l 5 0) B ∙ seven-count ((act s o) .reply) ((act s o) .count) in
+      let e : d .acted .answer .count ≡ (act s o) .count = ap (λ l. getD l 5 0) B ∙ seven-count s o in
       rw e (order-count s W o)
 
   -- and so does each order of a run

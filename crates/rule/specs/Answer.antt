@@ -12,7 +12,7 @@ pub data Reply : Type 0 where
 -- code and count; a sweep has 0 in all but dropped"
 abbrev pub seven : Reply → (count : ℕ) → List ℕ
 seven (booked c i r f) n = 0 ∷ c ∷ i ∷ r ∷ f ∷ n ∷ 0 ∷ []
-seven (swept d) n = 0 ∷ 0 ∷ 0 ∷ 0 ∷ 0 ∷ n ∷ d ∷ []
+seven (swept d) n = 0 ∷ 0 ∷ 0 ∷ 0 ∷ 0 ∷ 0 ∷ d ∷ []
 seven (refused x) n = x ∷ 0 ∷ 0 ∷ 0 ∷ 0 ∷ n ∷ 0 ∷ []
 
 -- the numbers that the code's struct holds

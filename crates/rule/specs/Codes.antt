@@ -28,11 +28,12 @@ bookingCode g floor r l m = firstCode ((eqb l 0, 3) ∷ (ltb r floor, 4) ∷ (la
 abbrev pub sweepCode : Settings → (floor moment : ℕ) → ℕ
 sweepCode g floor moment = firstCode ((ltb moment floor, 9) ∷ (ltb (floor + g .leap) moment, 10) ∷ [])
 
--- "the void taken leaves two pieces and the room is full", with n voids kept
-abbrev pub tooMany : Settings → (floor n l r s e : ℕ) → Bool
-tooMany g floor n l r s e = pick (eqb (pieces floor s e r (free r (hold g l))) 2) (leb (g .room) n) false
+-- "the void taken leaves two pieces and the room is full", with n voids kept; the void is from s up to e, and its
+-- channel held from r up to f
+abbrev pub tooMany : Settings → (floor n r f s e : ℕ) → Bool
+tooMany g floor n r f s e = pick (eqb (pieces floor s e r f) 2) (leb (g .room) n) false
 
 -- what a choice comes to: 7, 8, or the booking
 abbrev pub chosenReply : Settings → (floor n l : ℕ) → Choice → Reply
 chosenReply g floor n l nothing = refused 7
-chosenReply g floor n l (taken i r c s e) = pick (tooMany g floor n l r s e) (refused 8) (booked c i r (r + l))
+chosenReply g floor n l (taken i r c s e) = pick (tooMany g floor n r (free r (hold g l)) s e) (refused 8) (booked c i r (r + l))

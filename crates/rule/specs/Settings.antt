@@ -27,6 +27,10 @@ pub record Settings : Type 0 where
   pub leap : ℕ
   pub room : ℕ
 
+-- the settings of an opening, as its record and the caller name them
+abbrev pub settings : (room channels leap : ℕ) → (delays : List ℕ) → Settings
+settings room channels leap delays = record { channels = channels; delays = delays; leap = leap; room = room }
+
 -- all the tests of a list hold
 abbrev pub every : List Bool → Bool
 every [] = true

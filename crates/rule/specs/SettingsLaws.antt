@@ -63,3 +63,10 @@ pub rising-at : (d : ℕ) (ds : List ℕ) → rising d ds ≡ true → (i : ℕ)
 rising-at d [] q i = omega arith
 rising-at d (y ∷ ys) q zero = between-yes (suc d) longest y (pick-yes (between (suc d) longest y) (rising y ys) q .0) .1
 rising-at d (y ∷ ys) q (suc i) = rising-at y ys (pick-yes (between (suc d) longest y) (rising y ys) q .1) i
+
+-- a delay x after the delay d: where it may not come, the list does not rise; where it may, the rest decides
+pub rising-not : (d x : ℕ) (xs : List ℕ) → between (suc d) longest x ≡ false → rising d (x ∷ xs) ≡ false
+rising-not d x xs q = rw q
+
+pub rising-next : (d x : ℕ) (xs : List ℕ) → between (suc d) longest x ≡ true → rising d (x ∷ xs) ≡ rising x xs
+rising-next d x xs q = rw q

@@ -43,12 +43,11 @@ sweep-goes g floor moment = elim (case-lt moment floor) [
 ]
 
 -- a void taken is refused only if both pieces are kept and the room is full
-pub case-full : (g : Settings) (floor n l r s e : ℕ) → let f = free r (hold g l) in
-    (((pieces floor s e r f ≡ 2) × (g .room ≤ n)) × (tooMany g floor n l r s e ≡ true))
-    ⊎ ((kept floor s r ≡ true → kept floor f e ≡ true → n < g .room) × (tooMany g floor n l r s e ≡ false))
-case-full g floor n l r s e = elim (case-eq (pieces floor s e r (free r (hold g l))) 2) [
+pub case-full : (g : Settings) (floor n r f s e : ℕ) → (((pieces floor s e r f ≡ 2) × (g .room ≤ n)) × (tooMany g floor n r f s e ≡ true))
+    ⊎ ((kept floor s r ≡ true → kept floor f e ≡ true → n < g .room) × (tooMany g floor n r f s e ≡ false))
+case-full g floor n r f s e = elim (case-eq (pieces floor s e r f) 2) [
   | inl y ↦ rw (y .1) (elim (case-le (g .room) n) [ inl z ↦ inl ((y .0, z .0), z .1) | inr z ↦ inr ((λ a b. z .0), z .1) ])
-  | inr y ↦ rw (y .1) (inr ((λ a b. absurd (y .0 (pieces-two floor s e r (free r (hold g l)) a b))), refl))
+  | inr y ↦ rw (y .1) (inr ((λ a b. absurd (y .0 (pieces-two floor s e r f a b))), refl))
 ]
 
 -- ---- starts

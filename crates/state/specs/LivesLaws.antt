@@ -70,7 +70,7 @@ module _ (F₀ floor : ℕ) (g : Settings) (H : ℕ → ℕ → ℕ) (s : State)
     found-lives : (o : Sought) (n : ℕ) → Found (s .tree) (hold (s .settings) l) (Fair (s .floor) (hold (s .settings) l)) o
         → let y = bookFound s l (record { out = o; count = n }) in After (y .reply) (y .after)
     found-lives nowhere n a = L
-    found-lives (found i b p k e) n a = elim (case-full (s .settings) (s .floor) (size (s .tree)) l b (startOf k) e) [
+    found-lives (found i b p k e) n a = elim (case-full (s .settings) (s .floor) (size (s .tree)) b (free b (hold (s .settings) l)) (startOf k) e) [
       | inl y ↦ rw (y .1) L
       | inr y ↦ rw (y .1) (split-lives i b p k e (a .0) (a .1) (y .0))
     ]

@@ -9,6 +9,7 @@ use lib.ListN.{length}
 use Rattle.numbers.specs.Case.{case-lt, case-eq}
 use Rattle.rule.specs.Moments.{openEnd, lastMoment}
 use Rattle.rule.specs.Settings.{Settings, inBounds}
+use Rattle.rule.specs.SettingsLaws.{in-bounds}
 use Rattle.rule.specs.Kept.{least-most}
 use Rattle.rule.specs.Key.{keyOf, startOf, start-of-key}
 use Rattle.rule.specs.Voids.{Has}
@@ -21,7 +22,7 @@ use Rattle.state.specs.Sound.{Sound, among, below}
 use Rattle.state.specs.KeptLaws.{stays-least}
 use Rattle.state.specs.VoidLaws.{has-voids}
 use Rattle.state.specs.WidenLaws.{widen-inserted, widen-size, widen-sound}
-use Rattle.state.specs.BoundLaws.{bounds-channels, bounds-room, bounds-fewer}
+use Rattle.state.specs.BoundLaws.{bounds-fewer}
 
 -- every void is from the floor to the open end, and there is one for each channel
 pub record Opening (g : Settings) (floor c : ℕ) (s : State) : Type 0 where
@@ -69,7 +70,7 @@ single-all room z =
 module _ (g : Settings) (floor : ℕ) (q : inBounds g ≡ true) (h : floor ≤ lastMoment) where
   pub single-sound : Sound (single g floor)
   single-sound = record {
-    bounds = bounds-fewer g q 1 (omega arith) (bounds-channels g q .0);
+    bounds = bounds-fewer g q 1 (omega arith) (in-bounds g q .channels .0);
     floor = h;
     ordered = omega arith;
     balanced = tt;
@@ -78,7 +79,7 @@ module _ (g : Settings) (floor : ℕ) (q : inBounds g ≡ true) (h : floor ≤ l
     openEnds = λ c a. record { place = 0; key = keyOf floor 0; inside = (refl, refl, refl); channel = omega arith };
     all = single-all (g .room);
     many = omega (arith, length-up 1 (2 * g .room));
-    within = omega (arith, bounds-room g q, bounds-channels g q);
+    within = omega (arith, in-bounds g q .room .0, in-bounds g q .channels .0);
   }
 
   single-opening : Opening g floor 1 (single g floor)
@@ -91,7 +92,7 @@ module _ (g : Settings) (floor : ℕ) (q : inBounds g ≡ true) where
   widen-opening c s O h =
       let b : inBounds (with-channels (s .settings) (s .settings .channels + 1)) ≡ true = rw (O .settings) (bounds-fewer g q (c + 1) (omega arith) h) in
       let r : s .settings .room ≡ g .room = ap (λ (x : Settings). x .room) (O .settings) in
-      let n : size (s .tree) < s .settings .room = omega (arith, r, O .many, bounds-room g q) in
+      let n : size (s .tree) < s .settings .room = omega (arith, r, O .many, in-bounds g q .room .0) in
       let I = widen-inserted s (O .sound) b n in
       record {
         sound = widen-sound s (O .sound) b n;
@@ -112,7 +113,7 @@ fewer-is (suc n) h = omega arith
 module _ (g : Settings) (floor : ℕ) (q : inBounds g ≡ true) (h : floor ≤ lastMoment) where
   fresh-opening : Opening g floor (g .channels) (fresh g floor)
   fresh-opening =
-      let z = fewer-is (g .channels) (bounds-channels g q .0) in
+      let z = fewer-is (g .channels) (in-bounds g q .channels .0) in
       subst (λ c. Opening g floor c (fresh g floor)) z (widened-opening g floor q (fewer (g .channels)) 1 (single g floor) (single-opening g floor q h) (omega (arith, z)))
 
   pub fresh-sound : Sound (fresh g floor)

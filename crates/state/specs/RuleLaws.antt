@@ -43,7 +43,7 @@ module _ (s : State) (W : Sound s) where
     effect : (o : Sought) (n : ℕ) → Found (s .tree) h (Fair (s .floor) h) o
         → let y = bookFound s l (record { out = o; count = n }) in Effect (meaning s) l (y .reply) (choice o) (meaning (y .after))
     effect nowhere n a = same (meaning s)
-    effect (found i b p k e) n a = elim (case-full (s .settings) (s .floor) (size (s .tree)) l b (startOf k) e) [
+    effect (found i b p k e) n a = elim (case-full (s .settings) (s .floor) (size (s .tree)) b (free b (hold (s .settings) l)) (startOf k) e) [
       | inl y ↦ rw (y .1) (same (meaning s))
       | inr y ↦
           let S = found-split 0 (s .floor) (s .settings) (shut (s .tree)) s (omega arith) (sound-lives s W) h long b p k e (a .0) (a .1) (y .0) in

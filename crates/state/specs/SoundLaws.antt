@@ -33,7 +33,7 @@ module _ (s : State) (W : Sound s) where
   pub split-room : (r l m i b p k e : ℕ) → bookingCode (s .settings) (s .floor) r l m ≡ 0
       → let h = hold (s .settings) l in
       (seek (s .tree) h (starts (s .settings .delays) r h m)) .out ≡ found i b p k e
-      → tooMany (s .settings) (s .floor) (size (s .tree)) l b (startOf k) e ≡ false
+      → tooMany (s .settings) (s .floor) (size (s .tree)) b (free b h) (startOf k) e ≡ false
       → In p k e (s .tree) × Fits (startOf k) e b (free b h) × Room s k e b (free b h)
   split-room r l m i b p k e q out few =
       let h = hold (s .settings) l in
@@ -43,7 +43,7 @@ module _ (s : State) (W : Sound s) where
         a .0,
         a .1,
         found-room 0 (s .floor) (s .settings) (shut (s .tree)) s (omega arith) (sound-lives s W) h (z .0) b p k e (F .0) (F .1) (
-            elim (case-full (s .settings) (s .floor) (size (s .tree)) l b (startOf k) e) [
+            elim (case-full (s .settings) (s .floor) (size (s .tree)) b (free b (hold (s .settings) l)) (startOf k) e) [
               | inl y ↦ absurd (false≢true (sym few ∙ y .1))
               | inr y ↦ y .0
             ]

@@ -7,6 +7,7 @@ use native.Mathlib.Omega.{arith}
 use Rattle.numbers.specs.Case.{case-lt}
 use Rattle.rule.specs.Moments.{openEnd}
 use Rattle.rule.specs.Settings.{inBounds, mostChannels}
+use Rattle.rule.specs.SettingsLaws.{in-bounds}
 use Rattle.rule.specs.Kept.{least-most}
 use Rattle.rule.specs.Key.{keyOf, startOf, channelOf, start-of-key, channel-of-key}
 use Rattle.shape.specs.Tree.{size, In, All}
@@ -19,7 +20,6 @@ use Rattle.state.specs.Places.{Placed}
 use Rattle.state.specs.PlaceLaws.{two-spare, placed-add}
 use Rattle.state.specs.KeptLaws.{stays-least}
 use Rattle.state.specs.LeafLaws.{inserted-in, inserted-new}
-use Rattle.state.specs.BoundLaws.{bounds-channels}
 
 module _ (s : State) (W : Sound s) (q : inBounds (with-channels (s .settings) (s .settings .channels + 1)) ≡ true) (n : size (s .tree) < s .settings .room) where
   abbrev c : ℕ
@@ -38,7 +38,7 @@ module _ (s : State) (W : Sound s) (q : inBounds (with-channels (s .settings) (s
   x = first (rest (s .spares))
 
   few : c < mostChannels
-  few = omega (arith, bounds-channels (with-channels (s .settings) (c + 1)) q .1)
+  few = omega (arith, in-bounds (with-channels (s .settings) (c + 1)) q .channels .1)
 
   of-new : channelOf K ≡ c
   of-new = channel-of-key (s .floor) c (omega (arith, few))

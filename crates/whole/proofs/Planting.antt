@@ -17,7 +17,7 @@ use Rattle.shape.specs.TreeLaws.{widen}
 use Rattle.shape.specs.HeightLaws.{height-allowed}
 use Rattle.node.proofs.Reps.{unique}
 use Rattle.state.specs.Sound.{mostKey}
-use Rattle.whole.specs.declared.survey.Tally.{Tally}
+use Rattle.whole.specs.declared.survey.Progress.{Progress}
 use Rattle.whole.specs.Says.{Says}
 use Rattle.whole.specs.Survey.{next, run, Taken, Surveyed}
 use Rattle.whole.specs.Parts.{Treed, Planted}
@@ -38,7 +38,7 @@ allowed-small k h a g = elim (case-le (a .whole) 12) [
 ]
 
 module _ (m : List ℕ) (r c f root k h : ℕ) (e0 : r ≡ word m 0) (e1 : c ≡ word m 1) (e4 : f ≡ word m 4) (e5 : root ≡ word m 5) (e6 : k ≡ word m 6)
-    (some : 1 ≤ k) (high : Allowed k h) (x y : List ℕ) (s : Tally) (n : c ≤ length x) (z : (d : ℕ) → getD x d 0 ≡ 0)
+    (some : 1 ≤ k) (high : Allowed k h) (x y : List ℕ) (s : Progress) (n : c ≤ length x) (z : (d : ℕ) → getD x d 0 ≡ 0)
     (v : Surveyed m (2 * r + 1) c f x y root (h + 1) 0 (2 * k - 1) s) where
   taken : (t : Tree) → Treed m t → Taken m (2 * r + 1) c f x root (h + 1) 0 (2 * k - 1) t
   taken t w = record {

@@ -1,15 +1,14 @@
 -- The header's words: the delays as a list, the words that are 0, and the record of both.
 use mathlib.Core.Path.{_≡_, refl, sym, ap, _∙_}
-use mathlib.Core.Logic.{_⊎_, inl, inr}
 use mathlib.Core.Bool.{Bool, true, false, false≢true}
 use mathlib.Core.List.{List, [], _∷_}
 use Prim.Native.Nat.{ℕ, zero, suc, _+_, _*_, _-_, _≤_, _<_}
 use native.Mathlib.Omega.{arith}
 use lib.ListN.{length, getD}
 use Rattle.numbers.specs.Words.{word}
-use Rattle.numbers.specs.Case.{case-le}
 use Rattle.rule.specs.Settings.{longest, between, rising}
-use Rattle.rule.specs.SettingsLaws.{yes-between}
+use Rattle.rule.specs.SettingsLaws.{rising-next, rising-not}
+use Rattle.memory.specs.Header.{need}
 use Rattle.whole.specs.Says.{Says}
 use Rattle.whole.specs.Settled.{Bounded, listed, Zeros, Settled}
 use Rattle.whole.proofs.Saying.{says-map}
@@ -42,19 +41,6 @@ get-past (x ∷ xs) zero h = absurd (omega arith)
 get-past (x ∷ xs) (suc i) h = get-past xs i (omega arith)
 
 -- ---- delays that rise
-rising-more : (d x : ℕ) (xs : List ℕ) → d < x → x ≤ longest → rising d (x ∷ xs) ≡ rising x xs
-rising-more d x xs h i = let e : between (suc d) longest x ≡ true = yes-between (suc d) longest x (omega arith) i in rw e
-
-rising-not : (d x : ℕ) (xs : List ℕ) → (x ≤ d) ⊎ (longest < x) → rising d (x ∷ xs) ≡ false
-rising-not d x xs h = elim (case-le (suc d) x) [
-  | inr y ↦ rw (y .1)
-  | inl y ↦ elim (case-le x longest) [ inr z ↦ rw (y .1, z .1) | inl z ↦ absurd (over h (y .0) (z .0)) ]
-]
-  where
-    over : (x ≤ d) ⊎ (longest < x) → suc d ≤ x → x ≤ longest → ⊥
-    over (inl u) v w = omega arith
-    over (inr u) v w = omega arith
-
 -- the words of the lines from the one after line i on
 listed-cons : (m : List ℕ) (n i w : ℕ) → i < n → w ≡ word m (8 + i) → listed (n - i) m (8 + i) ≡ w ∷ listed (n - (i + 1)) m (8 + (i + 1))
 unfolding listed
@@ -64,10 +50,10 @@ listed-cons m n i w h e =
     rw (a, e, b)
 
 module _ (m : List ℕ) (n i d w : ℕ) (h : i < n) (e : w ≡ word m (8 + i)) where
-  pub rise-more : d < w → w ≤ longest → rising d (listed (n - i) m (8 + i)) ≡ rising w (listed (n - (i + 1)) m (8 + (i + 1)))
-  rise-more u v = ap (rising d) (listed-cons m n i w h e) ∙ rising-more d w (listed (n - (i + 1)) m (8 + (i + 1))) u v
+  pub rise-next : between (suc d) longest w ≡ true → rising d (listed (n - i) m (8 + i)) ≡ rising w (listed (n - (i + 1)) m (8 + (i + 1)))
+  rise-next u = ap (rising d) (listed-cons m n i w h e) ∙ rising-next d w (listed (n - (i + 1)) m (8 + (i + 1))) u
 
-  pub rise-not : (w ≤ d) ⊎ (longest < w) → rising d (listed (n - i) m (8 + i)) ≡ false
+  pub rise-not : between (suc d) longest w ≡ false → rising d (listed (n - i) m (8 + i)) ≡ false
   rise-not u = ap (rising d) (listed-cons m n i w h e) ∙ rising-not d w (listed (n - (i + 1)) m (8 + (i + 1))) u
 
 pub rise-end : (m : List ℕ) (n i d : ℕ) → n ≤ i → rising d (listed (n - i) m (8 + i)) ≡ true
@@ -82,15 +68,15 @@ module _ (m : List ℕ) (r c l h f k : ℕ) (e0 : r ≡ word m 0) (e1 : c ≡ wo
   pub unbounded : (Bounded r c l h f k → ⊥) → Settled m → ⊥
   unbounded g s = g (rw (e0, e1, e2, e3, e4, e6) (s .bounded))
 
-  pub short : length m < 208 + 40 * (2 * r + 1) → Settled m → ⊥
-  short g s = omega (arith, s .long)
+  pub short : (n : ℕ) → n ≡ need r → length m < n → Settled m → ⊥
+  short n en g s = omega (arith, s .long)
 
   pub falling : (b : Bool) → b ≡ rising 0 (listed l m 8) → b ≡ false → Settled m → ⊥
   falling b g z s = let u : rising 0 (listed l m 8) ≡ true = rw e2 (s .delays) in false≢true (sym z ∙ (g ∙ u))
 
-  pub settles : (b q : Bool) → Bounded r c l h f k → 208 + 40 * (2 * r + 1) ≤ length m → b ≡ rising 0 (listed l m 8) → b ≡ true
+  pub settles : (b q : Bool) → Bounded r c l h f k → (n : ℕ) → n ≡ need r → n ≤ length m → b ≡ rising 0 (listed l m 8) → b ≡ true
       → Says (Zeros m (8 + l)) q → Says (Settled m) q
-  settles b q u v g z = says-map (Zeros m (8 + l)) (Settled m) q
+  settles b q u n en v g z = says-map (Zeros m (8 + l)) (Settled m) q
       (λ o. record {
         bounded = rw (← e0, ← e1, ← e2, ← e3, ← e4, ← e6) u;
         long = omega arith;

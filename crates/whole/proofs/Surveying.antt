@@ -15,8 +15,8 @@ use Rattle.node.specs.Layout.{Within, nodeAt, leafNode, overNode}
 use Rattle.node.specs.Rep.{nodeOf, Rep}
 use Rattle.state.specs.Sound.{Lawful}
 use Rattle.node.proofs.Reps.{heightOf, rep-at, unique}
-use Rattle.whole.specs.declared.survey.Tally.{Tally}
-use Rattle.whole.specs.Survey.{Single, Near, Joined, Void, Leaf, next, run, Good, Taken, Surveyed}
+use Rattle.whole.specs.declared.survey.Progress.{Progress}
+use Rattle.whole.specs.Survey.{Single, Near, Joined, NextVoid, Leaf, next, run, Good, Taken, Surveyed}
 use Rattle.whole.proofs.Saying.{says-yes, says-no}
 
 -- ---- one node
@@ -36,7 +36,7 @@ over-joined : (k x y : Node) (l r : ℕ) → k ≡ overNode x y l r → Near (x 
 over-joined k x y l r h j = rw h (record { height = refl; lo = refl; split = refl; top = refl; low = refl; near = j })
 
 -- the answers of a leaf's test
-pub no-leaf : (c f a : ℕ) (x y : List ℕ) (k : Node) → (Single k × Void c f a (getD x (channelOf (k .lo)) 0) (k .lo) (k .top) → ⊥) → Leaf c f a x y k false
+pub no-leaf : (c f a : ℕ) (x y : List ℕ) (k : Node) → (Single k × NextVoid c f a (getD x (channelOf (k .lo)) 0) (k .lo) (k .top) → ⊥) → Leaf c f a x y k false
 no-leaf c f a x y k g = record { says = g; run = λ e. absurd (false≢true e) }
 
 pub touching : (c f a : ℕ) (x y : List ℕ) (k : Node) (d s : ℕ) → d ≡ channelOf (k .lo) → s ≡ startOf (k .lo) → s < getD x d 0 → Leaf c f a x y k false
@@ -56,12 +56,12 @@ leaf-fits c f a x y k b l e =
     omega (arith, v .some, v .most)
 
 -- ---- a survey of the place p
-pub entered : {m : List ℕ} {n c f : ℕ} {x y : List ℕ} {p limit a b : ℕ} {s : Tally} → Surveyed m n c f x y p limit a b s → (s .next ≡ 0 → ⊥) → p < n
+pub entered : {m : List ℕ} {n c f : ℕ} {x y : List ℕ} {p limit a b : ℕ} {s : Progress} → Surveyed m n c f x y p limit a b s → (s .next ≡ 0 → ⊥) → p < n
 entered v h = let w = v .yes h in let i = w .1 .inside (place (w .0)) (uses-place (w .0)) in omega (arith, w .1 .at)
 
 module _ (m : List ℕ) (n c f : ℕ) (x : List ℕ) (p limit a b : ℕ) where
   -- no tree is taken
-  pub nothing : (y : List ℕ) (s : Tally) → s .next ≡ 0 → s .left ≤ b → ((t : Tree) → Taken m n c f x p limit a b t → ⊥) → Surveyed m n c f x y p limit a b s
+  pub nothing : (y : List ℕ) (s : Progress) → s .next ≡ 0 → s .left ≤ b → ((t : Tree) → Taken m n c f x p limit a b t → ⊥) → Surveyed m n c f x y p limit a b s
   nothing y s z w g = record { yes = λ h. absurd (h z); no = λ _. g; work = w }
 
   pub spent : b ≡ 0 → (t : Tree) → Taken m n c f x p limit a b t → ⊥
@@ -109,7 +109,7 @@ module _ (m : List ℕ) (n c f : ℕ) (x : List ℕ) (p limit a b : ℕ) where
         }
 
     -- a node, whose left child the survey s has seen
-    module _ (y : List ℕ) (s : Tally) (nz : k .height ≡ 0 → ⊥) (some : b ≡ 0 → ⊥) (left : Surveyed m n c f x y (k .left) (k .height) a (b - 1) s) where
+    module _ (y : List ℕ) (s : Progress) (nz : k .height ≡ 0 → ⊥) (some : b ≡ 0 → ⊥) (left : Surveyed m n c f x y (k .left) (k .height) a (b - 1) s) where
       child-l : (q : ℕ) (l r : Tree) → Taken m n c f x p limit a b (node q l r) → Taken m n c f x (k .left) (k .height) a (b - 1) l
       unfolding Good Rep
       child-l q l r w =
@@ -131,7 +131,7 @@ module _ (m : List ℕ) (n c f : ℕ) (x : List ℕ) (p limit a b : ℕ) where
           go (node q l r) w = left .no z l (child-l q l r w)
 
       -- and whose right child the survey u has
-      module _ (z : List ℕ) (u : Tally) (found : s .next ≡ 0 → ⊥) (right : Surveyed m n c f y z (k .right) (k .height) (s .next) (s .left) u) where
+      module _ (z : List ℕ) (u : Progress) (found : s .next ≡ 0 → ⊥) (right : Surveyed m n c f y z (k .right) (k .height) (s .next) (s .left) u) where
         child-r : (q : ℕ) (l r : Tree) → Taken m n c f x p limit a b (node q l r) → Taken m n c f y (k .right) (k .height) (s .next) (s .left) r
         unfolding Good Rep
         child-r q l r w =

@@ -11,7 +11,7 @@ use Rattle.shape.specs.Tree.{Tree, leaf, node, place, height, size, uses}
 use Rattle.node.specs.declared.Node.{Node}
 use Rattle.node.specs.Rep.{Rep}
 use Rattle.state.specs.Sound.{Lawful}
-use Rattle.whole.specs.declared.survey.Tally.{Tally}
+use Rattle.whole.specs.declared.survey.Progress.{Progress}
 use Rattle.whole.specs.Says.{Says}
 
 -- what a survey may count on: n places in the memory, an end for each channel, a floor that is a moment
@@ -45,14 +45,14 @@ pub record Joined (n x y : Node) : Type 0 where
   pub near : Near (x .height) (y .height)
 
 -- a void that comes next: its key is not before `from`, and it starts at `last` or later
-pub record Void (channels floor from last k e : ℕ) : Type 0 where
+pub record NextVoid (channels floor from last k e : ℕ) : Type 0 where
   pub after : from ≤ k
   pub lawful : Lawful channels floor k e
   pub apart : last ≤ startOf k
 
 -- the test of a leaf's node, and what it leaves of the ends
 pub record Leaf (channels floor after : ℕ) (x y : List ℕ) (n : Node) (b : Bool) : Type 0 where
-  pub says : Says (Single n × Void channels floor after (getD x (channelOf (n .lo)) 0) (n .lo) (n .top)) b
+  pub says : Says (Single n × NextVoid channels floor after (getD x (channelOf (n .lo)) 0) (n .lo) (n .top)) b
   pub run : b ≡ true → y ≡ set x (channelOf (n .lo)) (n .top + 1)
 
 -- ---- a tree
@@ -68,7 +68,7 @@ run x (node p l r) = run (run x l) r
 
 -- its leaves come next, one after the other, and it is balanced
 unfoldable pub Good : (channels floor after : ℕ) → List ℕ → Tree → Type 0
-Good c f a x (leaf p k e) = Void c f a (getD x (channelOf k) 0) k e
+Good c f a x (leaf p k e) = NextVoid c f a (getD x (channelOf k) 0) k e
 Good c f a x (node p l r) = Good c f a x l × Good c f (next l) (run x l) r × Near (height l) (height r)
 
 -- a tree that a survey of the place p takes: below n places, of a height below the limit, and the visits to its nodes are in the budget
@@ -81,13 +81,13 @@ pub record Taken (m : List ℕ) (n channels floor : ℕ) (x : List ℕ) (p limit
   pub good : Good channels floor after x t
 
 -- the survey saw the tree t, with a visit to each of its 2 * size - 1 nodes
-pub record Seen (x y : List ℕ) (budget : ℕ) (s : Tally) (t : Tree) : Type 0 where
+pub record Seen (x y : List ℕ) (budget : ℕ) (s : Progress) (t : Tree) : Type 0 where
   pub next : s .next ≡ next t
   pub run : y ≡ run x t
   pub left : s .left + 2 * size t ≡ budget + 1
 
 -- a next key of 0 says that there is no such tree; each visit takes one from the budget, also where there is none
-pub record Surveyed (m : List ℕ) (n channels floor : ℕ) (x y : List ℕ) (p limit after budget : ℕ) (s : Tally) : Type 0 where
+pub record Surveyed (m : List ℕ) (n channels floor : ℕ) (x y : List ℕ) (p limit after budget : ℕ) (s : Progress) : Type 0 where
   pub yes : (s .next ≡ 0 → ⊥) → (t : Tree) × Taken m n channels floor x p limit after budget t × Seen x y budget s t
   pub no : s .next ≡ 0 → (t : Tree) → Taken m n channels floor x p limit after budget t → ⊥
   pub work : s .left ≤ budget

@@ -10,7 +10,7 @@ pub mod survey;
 pub fn whole(mem: &[u8]) -> bool
     ensures { λ b. ⌜ Says (Whole (now (mem .entry))) b ⌝ }
 {
-    if mem.len() < settings::HEADER_BYTES {
+    if mem.len() < node::HEADER_BYTES {
         return false;
     }
     if !settings::settled(mem) {

@@ -5,22 +5,10 @@ ghost use lib.ListN.{length};
 ghost use Rattle.rule.specs.Settings.{mostLines, rising};
 ghost use Rattle.whole.specs.Says.{Says};
 ghost use Rattle.whole.specs.Settled.{Bounded, listed, Zeros, Settled};
-
-// The layout (docs/ARCHITECTURE.md): words and bytes of the header, bytes of a node.
-const HEADER_WORDS: usize = 26;
-
-pub const HEADER_BYTES: usize = 208;
-
-const NODE_BYTES: usize = 40;
-
-// The table of bounds (rule's specs/Settings.antt).
-const MOST_CHANNELS: u64 = 64;
-
-const MOST_ROOM: u64 = 4096;
-
-const MOST_LINES: u64 = 16;
-
-const LONGEST: u64 = 4294967295;
+use rule::bounds::LONGEST;
+use rule::bounds::MOST_CHANNELS;
+use rule::bounds::MOST_LINES;
+use rule::bounds::MOST_ROOM;
 
 // Whether the header's numbers are in bounds.
 fn bounded(room: u64, channels: u64, lines: u64, leap: u64, floor: u64, kept: u64) -> bool
@@ -68,10 +56,7 @@ fn rises(mem: &[u8], lines: usize) -> bool
     let mut before: u64 = 0;
     while i < lines {
         let delay = numbers::words::get(mem, memory::DELAYS + i);
-        if delay <= before {
-            return false;
-        }
-        if LONGEST < delay {
+        if !rule::bounds::rises(before, delay) {
             return false;
         }
         before = delay;
@@ -86,7 +71,7 @@ fn zeros(mem: &[u8], from: usize) -> bool
     ensures { λ b. ⌜ Says (Zeros (now (mem .entry)) from) b ⌝ }
 {
     let mut i = from;
-    while i < HEADER_WORDS {
+    while i < node::HEADER_WORDS {
         if numbers::words::get(mem, i) != 0 {
             return false;
         }
@@ -109,8 +94,7 @@ pub fn settled(mem: &[u8]) -> bool
     if !bounded(room, channels, lines, leap, floor, kept) {
         return false;
     }
-    let places = (2 * room + 1) as usize;
-    if mem.len() < HEADER_BYTES + NODE_BYTES * places {
+    if mem.len() < memory::need(room) {
         return false;
     }
     if !rises(mem, lines as usize) {

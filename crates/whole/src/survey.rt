@@ -2,7 +2,7 @@
 // A budget of visits falls by one at each node and a child is lower than its parent, so that the survey ends, and soon, in a
 // hostile memory too: a whole tree of m leaves has 2 * m - 1 nodes, and no more are looked at.
 ghost use mathlib.Core.Path.{_≡_};
-ghost use Prim.Native.Nat.{ℕ, _+_, _*_, _≤_, _<_, min, max};
+ghost use Prim.Native.Nat.{ℕ, _+_, _*_, _≤_, _<_};
 ghost use lib.ListN.{length, getD};
 ghost use Rattle.rule.specs.Moments.{lastMoment, openEnd};
 ghost use Rattle.state.specs.Sound.{Lawful};
@@ -11,24 +11,14 @@ ghost use Rattle.whole.specs.Settled.{Settled};
 ghost use Rattle.whole.specs.Survey.{Single, Joined, Leaf, Surveyed, Reach};
 ghost use Rattle.whole.specs.Parts.{Planted};
 use node::Node;
+use numbers::pairs::larger;
+use numbers::pairs::smaller;
 use rule::moments::OPEN_END;
 
 // What a survey comes to: one more than the last key (0: no such tree), and what is left of the budget of visits.
-pub struct Tally {
+pub struct Progress {
     pub next: u64,
     pub left: u64,
-}
-
-fn larger(a: u64, b: u64) -> u64
-    ensures { λ r. ⌜ r ≡ max a b ⌝ }
-{
-    if a < b { b } else { a }
-}
-
-fn smaller(a: u64, b: u64) -> u64
-    ensures { λ r. ⌜ r ≡ min a b ⌝ }
-{
-    if a < b { a } else { b }
 }
 
 // Whether n is a leaf's node, but for its key and its end.
@@ -132,28 +122,28 @@ fn survey(
     limit: u64,
     after: u64,
     budget: u64,
-) -> Tally
+) -> Progress
     requires { ⌜ Reach (now mem) (now ends) places channels floor ⌝ }
     ensures { λ s. ⌜ Surveyed (now (mem .entry)) places channels floor (now (ends .entry)) (now (ends .exit)) p limit after budget s ⌝ }
 {
     if budget == 0 {
-        return Tally { next: 0, left: 0 };
+        return Progress { next: 0, left: 0 };
     }
     let left = budget - 1;
     if places <= p {
-        return Tally { next: 0, left };
+        return Progress { next: 0, left };
     }
     let n = node::load(mem, p);
     let h = n.height;
     if limit <= h {
-        return Tally { next: 0, left };
+        return Progress { next: 0, left };
     }
     if h == 0 {
         if !leaf(ends, channels, floor, after, n) {
-            return Tally { next: 0, left };
+            return Progress { next: 0, left };
         }
         let next = n.lo + 1;
-        return Tally { next, left };
+        return Progress { next, left };
     }
     let l = n.left as usize;
     let r = n.right as usize;
@@ -167,7 +157,7 @@ fn survey(
     }
     if !joined(n, node::load(mem, l), node::load(mem, r)) {
         let left = b.left;
-        return Tally { next: 0, left };
+        return Progress { next: 0, left };
     }
     b
 }
@@ -200,7 +190,7 @@ pub fn tree(mem: &[u8]) -> bool
     let places = (2 * room + 1) as usize;
     let limit = rule::height::allowed(kept) + 1;
     // one for each channel that a link may have
-    let mut ends = [0u64; 64];
+    let mut ends = [0u64; rule::bounds::MOST_CHANNELS as usize];
     let s = survey(
         mem,
         &mut ends,

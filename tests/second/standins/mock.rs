@@ -1,6 +1,6 @@
 //! A stand-in for the core while there is none: the model behind the functions of curlywether.h, the tree rebuilt at each change.
 //! Only to try the comparison itself (and, by MUTANT=n, to see it fail).
-#[path = "../generate.rs"] #[allow(dead_code)] mod generate;
+#[path = "../random.rs"] #[allow(dead_code)] mod random;
 #[path = "../layout.rs"] #[allow(dead_code)] mod layout;
 #[path = "../model.rs"] #[allow(dead_code)] mod model;
 use std::sync::OnceLock;
@@ -11,7 +11,7 @@ fn mutant() -> u32 { static M: OnceLock<u32> = OnceLock::new(); *M.get_or_init(|
 #[repr(C)] pub struct Told { code: u64, voids: u64 }
 unsafe fn sl<'a>(p: *const u8, n: usize) -> &'a [u8] { std::slice::from_raw_parts(p, n) }
 unsafe fn slm<'a>(p: *mut u8, n: usize) -> &'a mut [u8] { std::slice::from_raw_parts_mut(p, n) }
-fn store(m: &mut [u8], l: &model::Link) { layout::build(m, l, &mut generate::Rng::new(7), layout::Crooked::default());
+fn store(m: &mut [u8], l: &model::Link) { layout::build(m, l, &mut random::Rng::new(7), layout::Crooked::default());
     if mutant() == 1 && m.len() as u64 > model::need(l.room) { let n = m.len(); m[n - 1] ^= 1; } }
 #[no_mangle] pub unsafe extern "C" fn curlywether_open(m: *mut u8, n: usize, room: u64, r: *const u8, len: usize) -> Opened {
     match model::open(n, room, sl(r, len)) { Err(code) => Opened { code, used: 0 }, Ok((l, used)) => { store(slm(m, n), &l); Opened { code: 0, used } } } }

@@ -74,7 +74,7 @@ last = int(sys.argv[2]) if len(sys.argv) > 2 else len(mutants)
 missed = 0
 for n, (name, file, old, new) in list(enumerate(mutants))[first:last]:
     d = tempfile.mkdtemp(prefix="standin")
-    for f in ("model.rs", "layout.rs", "generate.rs"): shutil.copy(os.path.join(src, f), d)
+    for f in ("model.rs", "layout.rs", "random.rs"): shutil.copy(os.path.join(src, f), d)
     text = open(os.path.join(here, K)).read().replace("../", "")
     open(os.path.join(d, K), "w").write(text)
     p = os.path.join(d, file); text = open(p).read()

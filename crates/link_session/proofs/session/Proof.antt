@@ -1,7 +1,7 @@
 -- `link_session::session`: an opening that is accepted leaves a whole link. Assumes nothing.
 use Prim.Native.Nat.{zero-le}
 use native.Mathlib.Omega.{arith}
-use Rattle.opening.specs.Opening.{settings}
+use Rattle.rule.specs.Settings.{settings}
 use Rattle.link_session.proofs.Kept.{opened-whole}
 use borrow.Author.Needs.{needs}
 use Rattle.link_session.proofs.session.Statement.{statement}

@@ -1,3 +1,5 @@
+-- `node::over`: a node with no sums yet, summed up. Assumes nothing.
+use mathlib.Core.Path.{_∙_}
 use borrow.Author.Needs.{needs}
 use Rattle.node.proofs.over.Statement.{statement}
 use Rattle.node.proofs.over.Tie as tie
@@ -5,17 +7,14 @@ use Rattle.node.proofs.over.Tie as tie
 larger-requires : tie.Need-larger-requires
 larger-requires c κs = search needs
 
-add-t6 : tie.Need-add-t6
-add-t6 c = search needs
+add-t7 : tie.Need-add-t7
+add-t7 c = search needs
 
-larger-requires-2 : tie.Need-larger-requires-2
-larger-requires-2 c κs = search needs
-
-smaller-requires : tie.Need-smaller-requires
-smaller-requires c κs = search needs
+summed-requires : tie.Need-summed-requires
+summed-requires c κs = search needs
 
 returns : tie.Need-returns
-returns c = cc
+returns c = c .summed .ensures ∙ (rw (c .before .larger .ensures))
 
 pub over-spec : {M : Type 1} → statement M
-over-spec = tie.close (tie.spec larger-requires add-t6 larger-requires-2 smaller-requires returns)
+over-spec = tie.close (tie.spec larger-requires add-t7 summed-requires returns)

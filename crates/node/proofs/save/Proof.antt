@@ -1,10 +1,12 @@
+-- `node::save`: the sums, then height and places. Assumes nothing.
 use borrow.Author.Needs.{needs}
-use mathlib.Core.Path.{_≡_}
 use native.Mathlib.Omega.{arith}
-use Rattle.node.specs.Layout.{saved}
-use Rattle.node.proofs.Nodes.{saved-saved}
+use Rattle.node.proofs.Sums.{saved-of}
 use Rattle.node.proofs.save.Statement.{statement}
 use Rattle.node.proofs.save.Tie as tie
+
+save-sums-requires : tie.Need-save-sums-requires
+save-sums-requires c κs = search needs
 
 mul-b : tie.Need-mul-b
 mul-b c = search needs
@@ -12,29 +14,8 @@ mul-b c = search needs
 add-b : tie.Need-add-b
 add-b c = search needs
 
-put-requires : tie.Need-put-requires
-put-requires c κs = search needs
-
 add-put : tie.Need-add-put
 add-put c = search needs
-
-put-requires-2 : tie.Need-put-requires-2
-put-requires-2 c κs = search needs
-
-add-put-2 : tie.Need-add-put-2
-add-put-2 c = search needs
-
-put-requires-3 : tie.Need-put-requires-3
-put-requires-3 c κs = search needs
-
-add-put-3 : tie.Need-add-put-3
-add-put-3 c = search needs
-
-put-requires-4 : tie.Need-put-requires-4
-put-requires-4 c κs = search needs
-
-add-put-4 : tie.Need-add-put-4
-add-put-4 c = search needs
 
 mul-put : tie.Need-mul-put
 mul-put c = search needs
@@ -42,45 +23,36 @@ mul-put c = search needs
 mul-put-2 : tie.Need-mul-put-2
 mul-put-2 c = search needs
 
-add-put-5 : tie.Need-add-put-5
-add-put-5 c = search needs
+add-put-2 : tie.Need-add-put-2
+add-put-2 c = search needs
 
-add-put-6 : tie.Need-add-put-6
-add-put-6 c = search needs
+add-put-3 : tie.Need-add-put-3
+add-put-3 c = search needs
 
-put-requires-5 : tie.Need-put-requires-5
-put-requires-5 c κs = search needs
+put-requires : tie.Need-put-requires
+put-requires c κs = search needs
 
 same-length : tie.Need-same-length
 same-length c = search needs
 
-whole : (c : tie.After-slice-known6) → c .before .before .put5 .last .0 ≡ saved (c .before .before .before .before .before .before .before .before .before .before .before .before .before .before .before .before .before .before .before .before .before .before .before .before .args .mem .now) (c .before .before .before .before .before .before .before .before .before .before .before .before .before .before .before .before .before .before .before .before .before .before .before .before .args .p) (c .before .before .before .before .before .before .before .before .before .before .before .before .before .before .before .before .before .before .before .before .before .before .before .before .args .n)  -- Need-returns
-unfolding saved
-whole c = cc
-
 returns : tie.Need-returns
 returns c =
-    let s = c .before .before .before .before .before .before .before .before .before .before .before .before .before .before .before .before .before .before .before .before .before .before .before .before in
-    rw (whole c) (saved-saved (s .args .mem .now) (s .args .p) (s .args .n) (s .pre .0) (s .pre .1) (record { lo = omega (arith, s .good); split = omega (arith, s .good); top = omega (arith, s .good); low = omega (arith, s .good) }))
+    let start = c .before .before .before .before .before .before .before .before .before .before .before .before in
+    let at-sums = c .before .before .before .before .before .before .before .before .before in
+    saved-of _ _ _ _ _ (at-sums .save-sums .ensures .0) (cc) (start .pre .0) (start .pre .1) (record { lo = omega (arith, start .good); split = omega (arith, start .good); top = omega (arith, start .good); low = omega (arith, start .good) })
 
 pub save-spec : {M : Type 1} → statement M
 save-spec =
     tie.close
     (tie.spec
+    save-sums-requires
     mul-b
     add-b
-    put-requires
     add-put
-    put-requires-2
-    add-put-2
-    put-requires-3
-    add-put-3
-    put-requires-4
-    add-put-4
     mul-put
     mul-put-2
-    add-put-5
-    add-put-6
-    put-requires-5
+    add-put-2
+    add-put-3
+    put-requires
     same-length
     returns)

@@ -43,7 +43,7 @@ whole c = cc
 returns : tie.Need-returns
 returns c =
     let s = c .before .before .before .before .before .before .before .before .before .before .before .before .before .before .before .before .before in
-    rw (whole c) (sums-written (s .args .mem .now) (s .args .p) (s .args .n) (s .pre) (record { lo = omega (arith, s .good); split = omega (arith, s .good); top = omega (arith, s .good); low = omega (arith, s .good) }))
+    (whole c, rw (whole c) (sums-written (s .args .mem .now) (s .args .p) (s .args .n) (s .pre) (record { lo = omega (arith, s .good); split = omega (arith, s .good); top = omega (arith, s .good); low = omega (arith, s .good) })))
 
 pub save-sums-spec : {M : Type 1} → statement M
 save-sums-spec =

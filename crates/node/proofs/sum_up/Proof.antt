@@ -31,7 +31,7 @@ same-length-2 : tie.Need-same-length-2
 same-length-2 c = search needs
 
 returns-2 : tie.Need-returns-2
-returns-2 c = sums-saved _ _ _ _ _ _ (c .before .before .before .before .before .before .before .before .before .before .before .load .ensures) (c .before .before .before .before .before .before .before .before .before .load2 .ensures) (c .before .before .before .before .before .before .before .load3 .ensures) (c .before .before .before .before .before .before .summed .ensures) _ (c .before .before .save-sums .ensures)
+returns-2 c = sums-saved _ _ _ _ _ _ (c .before .before .before .before .before .before .before .before .before .before .before .load .ensures) (c .before .before .before .before .before .before .before .before .before .load2 .ensures) (c .before .before .before .before .before .before .before .load3 .ensures) (c .before .before .before .before .before .before .summed .ensures) _ (c .before .before .save-sums .ensures .1)
 
 pub sum-up-spec : {M : Type 1} → statement M
 sum-up-spec =

@@ -1,11 +1,12 @@
 -- `whole::settings::rises`: the delays that are left rise exactly if all of them do. Assumes nothing.
 use Prim.Native.Nat.{_≤_, _+_, _-_}
 use mathlib.Core.Path.{_≡_, sym, _∙_}
-use mathlib.Core.Logic.{inl, inr}
 use native.Mathlib.Omega.{arith}
+use borrow.Author.Needs.{needs}
 use Rattle.rule.specs.Settings.{rising}
+use Rattle.rule.proofs.Bounding.{broken, holds}
 use Rattle.whole.specs.Settled.{listed}
-use Rattle.whole.proofs.Settling.{rise-start, rise-more, rise-not, rise-end}
+use Rattle.whole.proofs.Settling.{rise-start, rise-next, rise-not, rise-end}
 use Rattle.whole.proofs.settings.rises.Statement.{statement}
 use Rattle.whole.proofs.settings.rises.Tie as tie
 
@@ -24,11 +25,15 @@ add-get c = omega arith
 get-requires : tie.Need-get-requires Inv-loop μ-loop
 get-requires c κs = omega arith
 
-returns : tie.Need-returns Inv-loop μ-loop
-returns c = sym (c .before .before .before .loop .inv .1 ∙ rise-not _ _ _ _ _ (c .before .before .loop-test .taken) (c .before .get .ensures) (inl (c .if1 .taken)))
+rises-requires : tie.Need-rises-requires Inv-loop μ-loop
+rises-requires c κs = search needs
 
-returns-2 : tie.Need-returns-2 Inv-loop μ-loop
-returns-2 c = sym (c .before .before .before .before .loop .inv .1 ∙ rise-not _ _ _ _ _ (c .before .before .before .loop-test .taken) (c .before .before .get .ensures) (inr (c .if2 .taken)))
+returns : tie.Need-returns Inv-loop μ-loop
+returns c =
+    let at-rises = c .before in
+    let at-get = at-rises .before in
+    let at-loop-test = at-get .before in
+    sym (at-loop-test .before .loop .inv .1 ∙ rise-not _ _ _ _ _ (at-loop-test .loop-test .taken) (at-get .get .ensures) (broken (at-rises .rises .ensures) (c .if1 .taken)))
 
 add-i : tie.Need-add-i Inv-loop μ-loop
 add-i c = omega arith
@@ -37,10 +42,14 @@ loop-less : tie.Need-loop-less Inv-loop μ-loop
 loop-less c = omega arith
 
 loop-again : tie.Need-loop-again Inv-loop μ-loop
-loop-again c = (omega arith, c .before .before .before .before .loop .inv .1 ∙ rise-more _ _ _ _ _ (c .before .before .before .loop-test .taken) (c .before .before .get .ensures) (c .before .if1 .left) (c .if2 .left))
+loop-again c =
+    let at-rises = c .before in
+    let at-get = at-rises .before in
+    let at-loop-test = at-get .before in
+    (omega arith, at-loop-test .before .loop .inv .1 ∙ rise-next _ _ _ _ _ (at-loop-test .loop-test .taken) (at-get .get .ensures) (holds (at-rises .rises .ensures) (c .if1 .left)))
 
-returns-3 : tie.Need-returns-3 Inv-loop μ-loop
-returns-3 c = sym (c .before .loop .inv .1 ∙ rise-end _ _ _ _ (c .loop-test .left))
+returns-2 : tie.Need-returns-2 Inv-loop μ-loop
+returns-2 c = sym (c .before .loop .inv .1 ∙ rise-end _ _ _ _ (c .loop-test .left))
 
 pub rises-spec : {M : Type 1} → statement M
 rises-spec =
@@ -51,9 +60,9 @@ rises-spec =
     loop-holds
     add-get
     get-requires
+    rises-requires
     returns
-    returns-2
     add-i
     loop-less
     loop-again
-    returns-3)
+    returns-2)

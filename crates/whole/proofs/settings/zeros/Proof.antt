@@ -21,7 +21,7 @@ get-requires : tie.Need-get-requires Inv-loop μ-loop
 get-requires c κs = omega arith
 
 returns : tie.Need-returns Inv-loop μ-loop
-returns c = λ f. c .if1 .taken (c .before .get .ensures ∙ f _ (c .before .before .before .loop .inv .1) (c .before .before .loop-test .taken))
+returns c = λ f. c .if1 .taken (c .before .get .ensures ∙ f _ (c .before .before .before .loop .inv .1) (omega (arith, c .before .before .loop-test .taken)))
 
 add-i : tie.Need-add-i Inv-loop μ-loop
 add-i c = omega arith

@@ -1,7 +1,7 @@
--- `opening::bounds::between` is the definition's test. Assumes nothing.
+-- `rule::bounds::between` is the definition's test. Assumes nothing.
 use borrow.Author.Tests.{le-leb, lt-leb}
-use Rattle.opening.proofs.bounds.between.Statement.{statement}
-use Rattle.opening.proofs.bounds.between.Tie as tie
+use Rattle.rule.proofs.bounds.between.Statement.{statement}
+use Rattle.rule.proofs.bounds.between.Tie as tie
 
 returns : tie.Need-returns
 returns c = simp (le-leb _ _ (c .if1 .taken))

@@ -1,14 +1,13 @@
--- `opening::bounds::rising`: what is left rises from the last delay on exactly if the whole does from 0 on. Assumes nothing.
+-- `rule::bounds::rising`: what is left rises from the last delay on exactly if the whole does from 0 on. Assumes nothing.
 use Prim.Native.Nat.{_-_, _≤_}
 use mathlib.Core.Path.{_≡_, refl, sym, _∙_}
-use Prim.Native.Nat.{_-_, _≤_}
 use native.Mathlib.Omega.{arith}
 use borrow.Author.Needs.{needs}
 use lib.ListN.{length, drop}
 use Rattle.rule.specs.Settings.{rising}
-use Rattle.opening.proofs.Bounding.{rising-end, rising-low, rising-high, rising-next}
-use Rattle.opening.proofs.bounds.rising.Statement.{statement}
-use Rattle.opening.proofs.bounds.rising.Tie as tie
+use Rattle.rule.proofs.Bounding.{delays-end, delays-not, delays-next, broken, holds}
+use Rattle.rule.proofs.bounds.rising.Statement.{statement}
+use Rattle.rule.proofs.bounds.rising.Tie as tie
 
 abbrev Inv-loop : tie.InvT-loop
 Inv-loop delays last₀ i₀ last i = (i ≤ length delays) × (rising last (drop i delays) ≡ rising 0 delays)
@@ -25,18 +24,15 @@ mul-delay c = search needs
 shared-slice-read-delay : tie.Need-shared-slice-read-delay Inv-loop μ-loop
 shared-slice-read-delay c = search needs
 
+rises-requires : tie.Need-rises-requires Inv-loop μ-loop
+rises-requires c κs = search needs
+
 returns : tie.Need-returns Inv-loop μ-loop
 returns c =
-    let at-loop-test = c .before .before in
+    let at-rises = c .before in
+    let at-loop-test = at-rises .before .before in
     let at-loop = at-loop-test .before in
-    sym (rising-low _ _ _ (at-loop-test .loop-test .taken) (c .if1 .taken)) ∙ at-loop .loop .inv .1
-
-returns-2 : tie.Need-returns-2 Inv-loop μ-loop
-returns-2 c =
-    let at-if1 = c .before in
-    let at-loop-test = at-if1 .before .before in
-    let at-loop = at-loop-test .before in
-    sym (rising-high _ _ _ (at-loop-test .loop-test .taken) (at-if1 .if1 .left) (c .if2 .taken)) ∙ at-loop .loop .inv .1
+    sym (delays-not _ _ _ (at-loop-test .loop-test .taken) (broken (at-rises .rises .ensures) (c .if1 .taken))) ∙ at-loop .loop .inv .1
 
 add-i : tie.Need-add-i Inv-loop μ-loop
 add-i c = search needs
@@ -46,15 +42,15 @@ loop-less c = omega (arith, c .before .before .before .loop-test .taken)
 
 loop-again : tie.Need-loop-again Inv-loop μ-loop
 loop-again c =
-    let at-if1 = c .before in
-    let at-loop-test = at-if1 .before .before in
+    let at-rises = c .before in
+    let at-loop-test = at-rises .before .before in
     let at-loop = at-loop-test .before in
-    (omega (arith, at-loop-test .loop-test .taken), sym (rising-next _ _ _ (at-loop-test .loop-test .taken) (at-if1 .if1 .left) (c .if2 .left)) ∙ at-loop .loop .inv .1)
+    (omega (arith, at-loop-test .loop-test .taken), sym (delays-next _ _ _ (at-loop-test .loop-test .taken) (holds (at-rises .rises .ensures) (c .if1 .left))) ∙ at-loop .loop .inv .1)
 
-returns-3 : tie.Need-returns-3 Inv-loop μ-loop
-returns-3 c =
+returns-2 : tie.Need-returns-2 Inv-loop μ-loop
+returns-2 c =
     let at-loop = c .before in
-    sym (rising-end _ _ _ (c .loop-test .left)) ∙ at-loop .loop .inv .1
+    sym (delays-end _ _ _ (c .loop-test .left)) ∙ at-loop .loop .inv .1
 
 pub rising-spec : {M : Type 1} → statement M
 rising-spec =
@@ -65,9 +61,9 @@ rising-spec =
     loop-holds
     mul-delay
     shared-slice-read-delay
+    rises-requires
     returns
-    returns-2
     add-i
     loop-less
     loop-again
-    returns-3)
+    returns-2)

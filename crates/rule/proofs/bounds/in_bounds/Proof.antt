@@ -1,8 +1,8 @@
--- `opening::bounds::in_bounds` goes down the table of bounds. Assumes nothing.
-use Rattle.opening.proofs.Bounding.{broken, holds, last-row}
+-- `rule::bounds::in_bounds` goes down the table of bounds. Assumes nothing.
+use Rattle.rule.proofs.Bounding.{broken, holds, last-row}
 use borrow.Author.Needs.{needs}
-use Rattle.opening.proofs.bounds.in_bounds.Statement.{statement}
-use Rattle.opening.proofs.bounds.in_bounds.Tie as tie
+use Rattle.rule.proofs.bounds.in_bounds.Statement.{statement}
+use Rattle.rule.proofs.bounds.in_bounds.Tie as tie
 
 between-requires : tie.Need-between-requires
 between-requires c κs = search needs

@@ -1,7 +1,7 @@
-// The table of bounds as one test (01, Bounds; rule's specs/Settings.antt).
+// The table of bounds as one test (01, Bounds; specs/Settings.antt). The one place where the code has its numbers.
 ghost use mathlib.Core.Path.{_≡_};
-ghost use Rattle.rule.specs.Settings.{between, rising, inBounds};
-ghost use Rattle.opening.specs.Opening.{settings};
+ghost use Prim.Native.Nat.{suc};
+ghost use Rattle.rule.specs.Settings.{longest, between, rising, settings, inBounds};
 
 pub const MOST_CHANNELS: u64 = 64;
 
@@ -9,12 +9,24 @@ pub const MOST_LINES: u64 = 16;
 
 pub const MOST_ROOM: u64 = 4096;
 
+// The longest delay, burst and leap.
 pub const LONGEST: u64 = 4294967295;
 
 fn between(low: u64, high: u64, x: u64) -> bool
     ensures { λ b. ⌜ b ≡ between low high x ⌝ }
 {
     if low <= x { x <= high } else { false }
+}
+
+// Whether a delay may come after the last one: it is longer, and not too long.
+pub fn rises(last: u64, delay: u64) -> bool
+    ensures { λ b. ⌜ b ≡ between (suc last) longest delay ⌝ }
+{
+    if last < delay {
+        delay <= LONGEST
+    } else {
+        false
+    }
 }
 
 // Whether the delays rise from 1 on, and none is too long.
@@ -25,10 +37,7 @@ fn rising(delays: &[u64]) -> bool
     let mut i = 0;
     while i < delays.len() {
         let delay = delays[i];
-        if delay <= last {
-            return false;
-        }
-        if LONGEST < delay {
+        if !rises(last, delay) {
             return false;
         }
         last = delay;
