@@ -48,10 +48,14 @@ bench-tree:
 	@rustc -O --edition 2021 -L target/staticlib -l static=tree_archive bench/tree/main.rs -o target/bench-tree
 	@target/bench-tree
 
+# the link's own booking and sweep, for the benchmarks alone: no part of `make lib`
+target/staticlib/liblink_archive.a: $(SOURCES)
+	@mkdir -p target
+	@rt staticlib link_archive > target/bench-link.log 2>&1 || { tail -5 target/bench-link.log; exit 1; }
+
 # the link's check, sweep and run, through its archives (docs/BENCHMARKS.md)
 .PHONY: bench-link
-bench-link: lib
-	@rt staticlib link_archive > target/bench-link.log 2>&1 || { tail -5 target/bench-link.log; exit 1; }
+bench-link: lib target/staticlib/liblink_archive.a
 	@rustc -O --edition 2021 -L target/staticlib -l static=door -l static=link_archive bench/link/main.rs -o target/bench-link
 	@target/bench-link
 
@@ -61,9 +65,9 @@ bench-link: lib
 # make bench-worst        the worst booking of each stream, in instructions (some minutes)
 # make bench-docs         all three on an idle machine, put into docs/BENCHMARKS.md, and both plots drawn from it
 .PHONY: bench bench-instructions bench-worst bench-docs bench-plots
-RUSTC := rustc -O -C codegen-units=1 --edition 2021 -L target/staticlib -l static=door
+RUSTC := rustc -O -C codegen-units=1 --edition 2021 -L target/staticlib -l static=door -l static=link_archive
 
-PEERS := $(wildcard bench/peers/*.rs) include/curlywether.rs target/staticlib/libdoor.a
+PEERS := $(wildcard bench/peers/*.rs) include/curlywether.rs target/staticlib/libdoor.a target/staticlib/liblink_archive.a
 
 target/bench-peers: $(PEERS)
 	@$(RUSTC) bench/peers/main.rs -o $@

@@ -151,6 +151,7 @@ fn sweep(room: usize, n: u64) -> (f64, u64) {
 }
 
 /// The same bookings as a run of records and as a loop over the link's own booking, and the run's one check; ns a booking each.
+/// The two take turns and the least of their rounds counts: other work on the machine only adds.
 fn beside(room: usize, n: usize) -> (f64, f64, f64) {
     let mem = opened(room);
     let mut seed = 88172645463325252u64;
@@ -168,28 +169,26 @@ fn beside(room: usize, n: usize) -> (f64, f64, f64) {
         records.extend([0, 0]);
     }
     let mut out = vec![0u64; 7 * n];
-    let run = median(|| {
+    let mut answers = vec![Answer::default(); n];
+    let mut least = [u64::MAX; 2];
+    for _ in 0..31 {
         let (mut m, mut tally) = (mem.clone(), Tally::default());
         let from = Instant::now();
         let r = curlywether::run(&mut m, &mut tally, &records, &mut out);
-        let ns = from.elapsed().as_nanos() as u64;
+        least[0] = least[0].min(from.elapsed().as_nanos() as u64);
         assert_eq!((r.code, r.answered), (0, n));
-        ns
-    });
-    let own = median(|| {
         let mut m = mem.clone();
-        let mut answers = vec![Answer::default(); n];
         let from = Instant::now();
         for (i, &(arrival, burst)) in orders.iter().enumerate() {
             answers[i] = book(&mut m, arrival, burst);
         }
-        let ns = from.elapsed().as_nanos() as u64;
+        least[1] = least[1].min(from.elapsed().as_nanos() as u64);
         for (i, a) in answers.iter().enumerate() {
             assert_eq!(out[7 * i..7 * i + 7], a.numbers());
         }
-        ns
-    });
-    (run / n as f64, own / n as f64, check(&mem, true) / n as f64)
+    }
+    let [run, own] = least.map(|ns| ns as f64 / n as f64);
+    (run, own, check(&mem, true) / n as f64)
 }
 
 fn main() {

@@ -1,8 +1,13 @@
 //! The core through its archive: a link in lent memory, played by `curlywether_run` on records. Its one check of the memory is in
 //! every figure; how many records a run has is said with each.
-use crate::curlywether::{self, Ran, Tally};
-use crate::order::Reply;
+use crate::curlywether::{self, Answer, Ran, Tally};
+use crate::order::{Order, Reply};
 use crate::stream::Stream;
+
+extern "C" {
+    fn link_book(memory: *mut u8, bytes: usize, arrival: u64, burst: u64, lines: u64) -> Answer;
+    fn link_sweep(memory: *mut u8, bytes: usize, moment: u64) -> Answer;
+}
 
 pub struct Core {
     pub memory: Vec<u8>,
@@ -35,6 +40,21 @@ impl Core {
             at += ran.place;
         }
         assert_eq!(at, self.records.len());
+    }
+
+    /// The stream by the link's own booking and sweep (crate link_archive): no check, no record, no tally.
+    pub fn play_own(&mut self, orders: &[Order]) {
+        let (memory, bytes) = (self.memory.as_mut_ptr(), self.memory.len());
+        for (answers, order) in self.answers.chunks_mut(7).zip(orders) {
+            // the memory is a whole link: it was opened, and only these calls change it
+            let answer = unsafe {
+                match *order {
+                    Order::Book { arrival, length } => link_book(memory, bytes, arrival, length, 0),
+                    Order::Sweep { moment } => link_sweep(memory, bytes, moment),
+                }
+            };
+            answers.copy_from_slice(&answer.numbers());
+        }
     }
 
     pub fn replies(&self) -> Vec<Reply> {

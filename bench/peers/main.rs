@@ -51,7 +51,7 @@ fn main() {
             single::all();
             growth::all();
         }
-        ["play", name, contender] => play_one(&stream(name), Contender::named(contender).expect("core, scan, map, tree, horizon or array")),
+        ["play", name, contender] => play_one(&stream(name), Contender::named(contender).expect("core, scan, map, tree, horizon, array or link")),
         ["streams"] => println!("{}", stream::NAMES.join("\n")),
         ["kinds", name] => kinds(&stream(name)),
         _ => {

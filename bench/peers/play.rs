@@ -11,6 +11,8 @@ pub enum Contender {
     Avl,
     Horizon,
     Array,
+    /// The core's booking and sweep by themselves (crate link_archive): one entry into the archive for each order.
+    Own,
 }
 
 use Contender::*;
@@ -27,11 +29,12 @@ impl Contender {
             Avl => "tree",
             Horizon => "horizon",
             Array => "array",
+            Own => "link",
         }
     }
 
     pub fn named(name: &str) -> Option<Contender> {
-        ALL.into_iter().chain([Array]).find(|contender| contender.name() == name)
+        ALL.into_iter().chain([Array, Own]).find(|contender| contender.name() == name)
     }
 
     pub fn fills_voids(self) -> bool {
@@ -76,6 +79,12 @@ fn play_core(stream: &Stream) -> Played {
     Played { ns_an_order: ns / stream.orders.len() as f64, replies: core.replies(), kept: core.voids() as usize }
 }
 
+fn play_own(stream: &Stream) -> Played {
+    let mut core = crate::core::Core::open(stream);
+    let ns = timed(&mut || core.play_own(&stream.orders));
+    Played { ns_an_order: ns / stream.orders.len() as f64, replies: core.replies(), kept: core.voids() as usize }
+}
+
 pub fn play(contender: Contender, stream: &Stream) -> Played {
     match contender {
         Core => play_core(stream),
@@ -84,6 +93,7 @@ pub fn play(contender: Contender, stream: &Stream) -> Played {
         Avl => play_peer::<crate::avl::Avl>(stream),
         Horizon => play_peer::<crate::horizon::Horizon>(stream),
         Array => play_peer::<crate::array::Array>(stream),
+        Own => play_own(stream),
     }
 }
 

@@ -3,4 +3,5 @@ pub mod Opening
 pub mod Stepping
 pub mod Deciding
 pub mod Running
+pub mod Acting
 pub mod Within

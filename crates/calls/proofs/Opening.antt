@@ -16,8 +16,8 @@ use Rattle.rule.specs.SettingsLaws.{in-bounds}
 use Rattle.order.specs.declared.Record.{Record}
 use Rattle.order.specs.declared.Record.the-variants.{Opening as Read, Booking, Sweep, Refused}
 use Rattle.order.proofs.Record.{the-type}
-use Rattle.order.specs.Records.{Reading, unread, opening, order, Opening, delaysAt, reading}
-use Rattle.order.specs.Read.{meant, Narrow, Reads}
+use Rattle.order.specs.Records.{Reading, unread, opening, order, Opening, delaysAt, reading, openingOnly}
+use Rattle.order.specs.Read.{meant, Narrow, ReadsOpening}
 use Rattle.order.specs.Delays.{delays-length}
 use Rattle.state.specs.Open.{fresh}
 use Rattle.memory.specs.Holds.{After}
@@ -29,8 +29,14 @@ use Rattle.calls.specs.Opens.{settingsOf, OpensAs, OpensRead, Opens}
 abbrev said : (channels lines leap floor : ℕ) → List ℕ → Opening
 said c l p f s = record { channels = c; delays = delaysAt 14 l s; leap = p; floor = f }
 
-module _ (s : List ℕ) (r : Record) (x : Reads s r) (c l p f u : ℕ) (q : r ≡ Read c l p f u) where
-  is-opening : reading s ≡ opening u (said c l p f s)
+-- for opening, what is no opening is as good as unread
+only-opening : (room : ℕ) (y : Reading) (o : Opened) (m m′ : List ℕ) → OpensRead room (openingOnly y) o m m′ → OpensRead room y o m m′
+only-opening room (unread x) o m m′ h = h
+only-opening room (opening n p) o m m′ h = h
+only-opening room (order n p) o m m′ h = h
+
+module _ (s : List ℕ) (r : Record) (x : ReadsOpening s r) (c l p f u : ℕ) (q : r ≡ Read c l p f u) where
+  is-opening : openingOnly (reading s) ≡ opening u (said c l p f s)
   is-opening = sym (x .is) ∙ ap (meant s) q
 
   narrow : Narrow (Read c l p f u)
@@ -45,7 +51,7 @@ module _ (s : List ℕ) (r : Record) (x : Reads s r) (c l p f u : ℕ) (q : r �
   module _ (room : ℕ) (m : List ℕ) where
     -- too many lines
     pub too-many : 16 < l → Opens room s (record { code = 1; used = 0 }) m m
-    too-many h = rw is-opening (rw (one (inBounds (settingsOf room (said c l p f s))) refl) (refl, refl))
+    too-many h = only-opening room (reading s) _ m m (rw is-opening (rw (one (inBounds (settingsOf room (said c l p f s))) refl) (refl, refl)))
       where
         one : (b : Bool) → inBounds (settingsOf room (said c l p f s)) ≡ b → openingCode (settingsOf room (said c l p f s)) (length m) ≡ 1
         one true e = absurd (omega (arith, in-bounds (settingsOf room (said c l p f s)) e .lines, delays-length 14 l s))
@@ -57,7 +63,7 @@ module _ (s : List ℕ) (r : Record) (x : Reads s r) (c l p f u : ℕ) (q : r �
       same-code = rw (← d) (sym (o .answer))
 
       pub accepted : code ≡ 0 → Opens room s (record { code = 0; used = u }) m m′
-      accepted z = rw (is-opening, same-code, z) (refl, rw (← d) (o .accepted z))
+      accepted z = only-opening room (reading s) _ m m′ (rw (is-opening, same-code, z) (refl, rw (← d) (o .accepted z)))
 
       codes : (g : Settings) (n : ℕ) → (openingCode g n ≡ 0 → ⊥) → openingCode g n ≡ 1
       codes g n h = go (inBounds g) refl (ltb n (Rattle.memory.specs.Header.need (g .room))) refl
@@ -70,11 +76,11 @@ module _ (s : List ℕ) (r : Record) (x : Reads s r) (c l p f u : ℕ) (q : r �
       pub turned-down : (code ≡ 0 → ⊥) → Opens room s (record { code = 1; used = 0 }) m m′
       turned-down h =
           let one : code ≡ 1 = o .answer ∙ codes (settings room c p (take l ds)) (length m) (λ e. h (o .answer ∙ e)) in
-          rw (is-opening, same-code, one) (refl, o .refused one)
+          only-opening room (reading s) _ m m′ (rw (is-opening, same-code, one) (refl, o .refused one))
 
 -- any other record: its tag is one of the others
-pub no-opening : (s : List ℕ) (r : Record) → Reads s r → (room : ℕ) (m : List ℕ) → OneOf (1 ∷ 2 ∷ 3 ∷ []) (tagOf the-type r) → Opens room s (record { code = 11; used = 0 }) m m
+pub no-opening : (s : List ℕ) (r : Record) → ReadsOpening s r → (room : ℕ) (m : List ℕ) → OneOf (1 ∷ 2 ∷ 3 ∷ []) (tagOf the-type r) → Opens room s (record { code = 11; used = 0 }) m m
 no-opening s (Read c l p f u) x room m n = absurd (miss (1 ∷ 2 ∷ 3 ∷ []) 0 tt n)
-no-opening s (Booking a b l u) x room m n = rw (sym (x .is)) (refl, refl)
-no-opening s (Sweep a u) x room m n = rw (sym (x .is)) (refl, refl)
-no-opening s (Refused k) x room m n = rw (sym (x .is), x .narrow) (refl, refl)
+no-opening s (Booking a b l u) x room m n = only-opening room (reading s) _ m m (rw (sym (x .is)) (refl, refl))
+no-opening s (Sweep a u) x room m n = only-opening room (reading s) _ m m (rw (sym (x .is)) (refl, refl))
+no-opening s (Refused k) x room m n = only-opening room (reading s) _ m m (rw (sym (x .is), x .narrow) (refl, refl))

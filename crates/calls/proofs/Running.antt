@@ -21,10 +21,10 @@ use Rattle.state.specs.Sound.{Sound}
 use Rattle.state.specs.SettingsLaws.{act-settings}
 use Rattle.memory.specs.Holds.{Holds, Whole, After}
 use Rattle.memory.proofs.Whole.{after-none, after-then}
-use Rattle.calls.specs.declared.act.Done.{Done}
+use Rattle.calls.specs.declared.run.Single.{Single}
 use Rattle.calls.specs.declared.run.RunDone.{RunDone}
 use Rattle.calls.specs.Run.{stepOn, Ran, ended, answered, onward, runFrom, runOn, flat}
-use Rattle.calls.specs.Calls.{Gives, StepsTo, Steps, RunsTo, Runs, RunsNot}
+use Rattle.calls.specs.Calls.{Gives, StepsTo, counted, Steps, RunsTo, Runs, RunsNot}
 
 -- ---- the definition of a run, a record at a time
 module _ (n : ℕ) (s : State) (t : Tally) (room place : ℕ) where
@@ -167,11 +167,11 @@ module _ {m₀ bytes out₀ : List ℕ} {t₀ : Tally} {m out : List ℕ} {t : T
       (fueled (λ n. runFrom n (p .state) t (length out - written) place (drop place bytes) ≡ ended (p .state) t 12 place) h
       (λ n. full n (p .state) t (length out - written) place (drop place bytes) (omega (arith, left)) r))
 
-  module _ (h : place < length bytes) (r : 7 ≤ length out - written) (m′ : List ℕ) (d : Done) (f : Steps t (drop place bytes) d m m′) where
-    step : StepsTo (stepOn (p .state) t (reading (drop place bytes))) d m m′
-    step = f (p .state) (p .sound) (p .after .holds)
+  module _ (h : place < length bytes) (r : 7 ≤ length out - written) (m′ : List ℕ) (x : Single) (f : Steps (drop place bytes) x m m′) where
+    step : StepsTo (stepOn (p .state) t (reading (drop place bytes))) (counted t x) m m′
+    step = f (p .state) (p .sound) (p .after .holds) t
 
-    pub run-stuck : d .acted .used ≡ 0 → Runs t₀ bytes (record { tally = t; ran = record { code = 11; place = place; answered = count } }) m₀ m′ out₀ out
+    pub run-stuck : x .used ≡ 0 → Runs t₀ bytes (record { tally = t; ran = record { code = 11; place = place; answered = count } }) m₀ m′ out₀ out
     run-stuck z = go (reading (drop place bytes)) refl
       where
         at : (stepOn (p .state) t (reading (drop place bytes))) .used ≡ 0
@@ -184,10 +184,10 @@ module _ {m₀ bytes out₀ : List ℕ} {t₀ : Tally} {m out : List ℕ} {t : T
             (λ n. stuck n (p .state) t (length out - written) place (drop place bytes) (omega (arith, left)) r at))
 
         go : (y : Reading) → reading (drop place bytes) ≡ y → Runs t₀ bytes (record { tally = t; ran = record { code = 11; place = place; answered = count } }) m₀ m′ out₀ out
-        go (unread x) e = same (after-then refl (p .after) (let s : StepsTo (stepOn (p .state) t (unread x)) d m m′ = rw e at step in s .after))
-        go (opening u o) e = same (after-then refl (p .after) (let s : StepsTo (stepOn (p .state) t (opening u o)) d m m′ = rw e at step in s .after))
+        go (unread k) e = same (after-then refl (p .after) (let s : StepsTo (stepOn (p .state) t (unread k)) (counted t x) m m′ = rw e at step in s .after))
+        go (opening u o) e = same (after-then refl (p .after) (let s : StepsTo (stepOn (p .state) t (opening u o)) (counted t x) m m′ = rw e at step in s .after))
         go (order u o) e =
-            let s : StepsTo (stepOn (p .state) t (order u o)) d m m′ = rw e at step in
+            let s : StepsTo (stepOn (p .state) t (order u o)) (counted t x) m m′ = rw e at step in
             let k : 8 ≤ u = rw e at (kind (drop place bytes)) in
             absurd (omega (arith, s .used))
 
@@ -236,30 +236,30 @@ module _ {m₀ bytes out₀ : List ℕ} {t₀ : Tally} {m out : List ℕ} {t : T
               p .run ∙ (ap (before (p .said)) (further u o vs ev e) ∙ (rw (n, drop-drop u place bytes) (shifted (p .said) vs _)));
         }
 
-    pub turn : (d .acted .used ≡ 0 → ⊥) → Along m₀ bytes out₀ t₀ m′ (sets out written (numbersOf (d .acted .answer))) (d .tally) (place + d .acted .used) (count + 1) (written + 7)
+    pub turn : (x .used ≡ 0 → ⊥) → Along m₀ bytes out₀ t₀ m′ (sets out written (numbersOf (x .answer))) (raised t (x .row)) (place + x .used) (count + 1) (written + 7)
     turn nz = go (reading (drop place bytes)) refl
       where
         Next : Type 0
-        Next = Along m₀ bytes out₀ t₀ m′ (sets out written (numbersOf (d .acted .answer))) (d .tally) (place + d .acted .used) (count + 1) (written + 7)
+        Next = Along m₀ bytes out₀ t₀ m′ (sets out written (numbersOf (x .answer))) (raised t (x .row)) (place + x .used) (count + 1) (written + 7)
 
         idle : (stepOn (p .state) t (reading (drop place bytes))) .used ≡ 0 → Next
         idle e = absurd (nz (step .used ∙ e))
 
-        turned : (u : ℕ) (o : Order) → StepsTo (stepOn (p .state) t (order u o)) d m m′ → reading (drop place bytes) ≡ order u o → Next
+        turned : (u : ℕ) (o : Order) → StepsTo (stepOn (p .state) t (order u o)) (counted t x) m m′ → reading (drop place bytes) ≡ order u o → Next
         turned u o s e =
             let k : 8 ≤ u = rw e at (kind (drop place bytes)) in
             let i : u ≤ length (drop place bytes) = rw e at (inside (drop place bytes)) in
-            let A = along u o (numbersOf (d .acted .answer)) (s .numbers) (s .after) (s .sound) k i e in
-            subst (λ (x : Tally). Along m₀ bytes out₀ t₀ m′ (sets out written (numbersOf (d .acted .answer))) x (place + d .acted .used) (count + 1) (written + 7)) (sym (s .tally))
-            (subst (λ (v : ℕ). Along m₀ bytes out₀ t₀ m′ (sets out written (numbersOf (d .acted .answer))) (raised t (rowOf ((act (p .state) o) .reply))) (place + v) (count + 1) (written + 7)) (sym (s .used)) A)
+            let A = along u o (numbersOf (x .answer)) (s .numbers) (s .after) (s .sound) k i e in
+            subst (λ (z : Tally). Along m₀ bytes out₀ t₀ m′ (sets out written (numbersOf (x .answer))) z (place + x .used) (count + 1) (written + 7)) (sym (s .tally))
+            (subst (λ (v : ℕ). Along m₀ bytes out₀ t₀ m′ (sets out written (numbersOf (x .answer))) (raised t (rowOf ((act (p .state) o) .reply))) (place + v) (count + 1) (written + 7)) (sym (s .used)) A)
 
         go : (y : Reading) → reading (drop place bytes) ≡ y → Next
-        go (unread x) e = idle (rw e)
+        go (unread k) e = idle (rw e)
         go (opening u o) e = idle (rw e)
         go (order u o) e =
-            let s : StepsTo (stepOn (p .state) t (order u o)) d m m′ = rw e at step in
+            let s : StepsTo (stepOn (p .state) t (order u o)) (counted t x) m m′ = rw e at step in
             turned u o s e
 
 -- a step on the part of the records from the place on
-pub from-part : (t : Tally) (bytes : List ℕ) (place : ℕ) (d : Done) (m m′ : List ℕ) → Steps t (take (length bytes - place) (drop place bytes)) d m m′ → Steps t (drop place bytes) d m m′
-from-part t bytes place d m m′ f = let e : take (length bytes - place) (drop place bytes) ≡ drop place bytes = take-all (length bytes - place) (drop place bytes) (omega (arith, length-drop place bytes)) in rw e at f
+pub from-part : (bytes : List ℕ) (place : ℕ) (x : Single) (m m′ : List ℕ) → Steps (take (length bytes - place) (drop place bytes)) x m m′ → Steps (drop place bytes) x m m′
+from-part bytes place x m m′ f = let e : take (length bytes - place) (drop place bytes) ≡ drop place bytes = take-all (length bytes - place) (drop place bytes) (omega (arith, length-drop place bytes)) in rw e at f

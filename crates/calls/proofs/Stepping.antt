@@ -38,8 +38,9 @@ use Rattle.memory.proofs.Whole.{after-none}
 use Rattle.booking.specs.Book.{Books}
 use Rattle.sweeping.specs.Swept.{Sweeps}
 use Rattle.calls.specs.declared.act.Done.{Done}
-use Rattle.calls.specs.Run.{stepOn}
-use Rattle.calls.specs.Calls.{Unused, rowAt, StepsTo, Steps}
+use Rattle.calls.specs.declared.run.Single.{Single}
+use Rattle.calls.specs.Run.{stepOn, unused}
+use Rattle.calls.specs.Calls.{Unused, rowAt, StepsTo, counted, Steps}
 
 -- ---- the tally's row of an order's reply
 abbrev codeOf : Reply → ℕ
@@ -78,15 +79,15 @@ sweep-row s moment = go (sweepCode (s .settings) (s .floor) moment)
     go (suc x) = refusal-row x 1
 
 -- ---- an order
-module _ (bytes : List ℕ) (t t′ : Tally) (a : Answer) (u k w : ℕ) (o : Order) (q : reading bytes ≡ order u o) (ek : k ≡ rowAt (a .code) w) (et : t′ ≡ raised t k) (m m′ : List ℕ) where
+module _ (bytes : List ℕ) (a : Answer) (u k w : ℕ) (o : Order) (q : reading bytes ≡ order u o) (ek : k ≡ rowAt (a .code) w) (m m′ : List ℕ) where
   ordered : (s : State) → Sound s → InRange o → rowAt (codeOf ((act s o) .reply)) w ≡ rowOf ((act s o) .reply) → numbersOf a ≡ seven ((act s o) .reply) ((act s o) .count) → After m m′ ((act s o) .after)
-      → StepsTo (stepOn s t (reading bytes)) (record { tally = t′; acted = record { answer = a; used = u } }) m m′
-  ordered s so ir e n f =
+      → (t : Tally) → StepsTo (stepOn s t (reading bytes)) (counted t (record { answer = a; used = u; row = k })) m m′
+  ordered s so ir e n f t =
       let c : a .code ≡ codeOf ((act s o) .reply) = ap (λ (l : List ℕ). getD l 0 0) n ∙ code-first ((act s o) .reply) ((act s o) .count) in
       rw q (record {
         numbers = n;
         used = refl;
-        tally = et ∙ ap (raised t) (ek ∙ (ap (λ (x : ℕ). rowAt x w) c ∙ e));
+        tally = ap (raised t) (ek ∙ (ap (λ (x : ℕ). rowAt x w) c ∙ e));
         after = f;
         sound = act-sound s so o ir;
       })
@@ -96,26 +97,30 @@ module _ (bytes : List ℕ) (r : Record) (x : Reads bytes r) where
     pub booking-in : (b ≤ lastMoment) × (l ≤ longest)
     booking-in = let n : Narrow (Booking b l p u) = rw q at (x .narrow) in (n .0, n .1)
 
-    pub booked-steps : (t t′ : Tally) (a : Answer) (k : ℕ) (m m′ : List ℕ) → ((s : State) → Sound s → Holds m s → Books b l p a m m′ s) → k ≡ rowAt (a .code) 0 → t′ ≡ raised t k
-        → Steps t bytes (record { tally = t′; acted = record { answer = a; used = u } }) m m′
-    booked-steps t t′ a k m m′ f ek et s o h =
-        ordered bytes t t′ a u k 0 (booking b l p) (sym (x .is) ∙ ap (meant bytes) q) ek et m m′ s o tt (booking-row s b l p) (f s o h .answer) (f s o h .after)
+    pub booked-steps : (a : Answer) (k : ℕ) (m m′ : List ℕ) → ((s : State) → Sound s → Holds m s → Books b l p a m m′ s) → k ≡ rowAt (a .code) 0 → Steps bytes (record { answer = a; used = u; row = k }) m m′
+    booked-steps a k m m′ f ek s o h = ordered bytes a u k 0 (booking b l p) (sym (x .is) ∙ ap (meant bytes) q) ek m m′ s o tt (booking-row s b l p) (f s o h .answer) (f s o h .after)
 
   module _ (b u : ℕ) (q : r ≡ Sweep b u) where
     pub sweep-in : b ≤ lastMoment
     sweep-in = let n : Narrow (Sweep b u) = rw q at (x .narrow) in n
 
-    pub swept-steps : (t t′ : Tally) (a : Answer) (k : ℕ) (m m′ : List ℕ) → ((s : State) → Sound s → Holds m s → Sweeps b a m m′ s) → k ≡ rowAt (a .code) 1 → t′ ≡ raised t k
-        → Steps t bytes (record { tally = t′; acted = record { answer = a; used = u } }) m m′
-    swept-steps t t′ a k m m′ f ek et s o h =
-        ordered bytes t t′ a u k 1 (sweep b) (sym (x .is) ∙ ap (meant bytes) q) ek et m m′ s o sweep-in (sweep-row s b) (f s o h .answer) (f s o h .after)
+    pub swept-steps : (a : Answer) (k : ℕ) (m m′ : List ℕ) → ((s : State) → Sound s → Holds m s → Sweeps b a m m′ s) → k ≡ rowAt (a .code) 1 → Steps bytes (record { answer = a; used = u; row = k }) m m′
+    swept-steps a k m m′ f ek s o h = ordered bytes a u k 1 (sweep b) (sym (x .is) ∙ ap (meant bytes) q) ek m m′ s o sweep-in (sweep-row s b) (f s o h .answer) (f s o h .after)
 
-unused-steps : (s : State) (t : Tally) (d : Done) (m : List ℕ) → Sound s → Holds m s → Unused 11 t d → (y : Reading) → stepOn s t y ≡ Rattle.calls.specs.Run.unused s t 11 → StepsTo (stepOn s t y) d m m
-unused-steps s t d m o h n y e = rw e (record { numbers = n .numbers; used = n .used; tally = n .tally; after = after-none h; sound = o })
+-- ---- no order
+pub unused-steps : (s : State) (t : Tally) (d : Done) (m m′ : List ℕ) → Sound s → After m m′ s → Unused 11 t d → (y : Reading) → stepOn s t y ≡ unused s t 11 → StepsTo (stepOn s t y) d m m′
+unused-steps s t d m m′ o h n y e = rw e (record { numbers = n .numbers; used = n .used; tally = n .tally; after = h; sound = o })
+
+abbrev idle : Single
+idle = record { answer = record { code = 11; channel = 0; line = 0; start = 0; finish = 0; count = 0; dropped = 0 }; used = 0; row = 10 }
+
+idle-unused : (t : Tally) → Unused 11 t (counted t idle)
+unfolding raised
+idle-unused t = record { numbers = refl; used = refl; tally = refl }
 
 -- any other record: its tag is neither a booking's nor a sweep's
-pub no-order : (bytes : List ℕ) (r : Record) → Reads bytes r → OneOf (0 ∷ 3 ∷ []) (tagOf the-type r) → (t : Tally) (d : Done) (m : List ℕ) → Unused 11 t d → Steps t bytes d m m
-no-order bytes (Opening c l p f u) x n t d m v s o h = unused-steps s t d m o h v (reading bytes) (rw (sym (x .is)))
-no-order bytes (Booking a b l u) x n t d m v s o h = absurd (miss (0 ∷ 3 ∷ []) 1 tt n)
-no-order bytes (Sweep a u) x n t d m v s o h = absurd (miss (0 ∷ 3 ∷ []) 2 tt n)
-no-order bytes (Refused k) x n t d m v s o h = unused-steps s t d m o h v (reading bytes) (rw (sym (x .is), x .narrow))
+pub no-order : (bytes : List ℕ) (r : Record) → Reads bytes r → OneOf (0 ∷ 3 ∷ []) (tagOf the-type r) → (m : List ℕ) → Steps bytes idle m m
+no-order bytes (Opening c l p f u) x n m s o h t = unused-steps s t (counted t idle) m m o (after-none h) (idle-unused t) (reading bytes) (rw (sym (x .is)))
+no-order bytes (Booking a b l u) x n m s o h t = absurd (miss (0 ∷ 3 ∷ []) 1 tt n)
+no-order bytes (Sweep a u) x n m s o h t = absurd (miss (0 ∷ 3 ∷ []) 2 tt n)
+no-order bytes (Refused k) x n m s o h t = unused-steps s t (counted t idle) m m o (after-none h) (idle-unused t) (reading bytes) (rw (sym (x .is), x .narrow))

@@ -6,7 +6,7 @@ use lib.ListN.{length, drop}
 use Rattle.numbers.specs.Case.{pick}
 use Rattle.rule.specs.declared.tally.Tally.{Tally}
 use Rattle.rule.specs.Order.{Order}
-use Rattle.rule.specs.Answer.{Reply, seven}
+use Rattle.rule.specs.Answer.{Reply, refused, seven}
 use Rattle.rule.specs.Counts.{rowOf, raised}
 use Rattle.order.specs.Records.{Reading, unread, opening, order, reading}
 use Rattle.state.specs.State.{State}
@@ -19,12 +19,8 @@ pub record Stepped : Type 0 where
   pub tally : Tally
   pub after : State
 
--- "A refusal has 0 in all but code and count"
-abbrev pub onlyCode : (code : ℕ) → List ℕ
-onlyCode x = x ∷ 0 ∷ 0 ∷ 0 ∷ 0 ∷ 0 ∷ 0 ∷ []
-
 abbrev pub unused : State → Tally → (code : ℕ) → Stepped
-unused s t x = record { numbers = onlyCode x; used = 0; tally = t; after = s }
+unused s t x = record { numbers = seven (refused x) 0; used = 0; tally = t; after = s }
 
 -- "OL in a run or as a single order" is code 11; "An order acted on raises exactly one count"
 abbrev pub stepOn : State → Tally → Reading → Stepped

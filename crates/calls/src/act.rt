@@ -1,8 +1,9 @@
-// Acting on the single record at the start of a buffer (specs/Calls.antt, `Acts`).
-ghost use Rattle.memory.specs.Holds.{Whole};
+// Acting on the single record at the start of a buffer (specs/Calls.antt, `Acts`): a run with room for one answer.
 ghost use mathlib.Core.Path.{_≡_};
-ghost use Rattle.calls.specs.Calls.{Unused, rowAt, Steps, Acts};
-use order::Record;
+ghost use lib.ListN.{length};
+ghost use Rattle.rule.specs.Answer.{numbersOf};
+ghost use Rattle.calls.specs.Calls.{Unused, Acts};
+use crate::run::run;
 use rule::answer::Answer;
 use rule::tally::Tally;
 
@@ -38,50 +39,41 @@ fn refused(code: u64, tally: Tally) -> Done
     }
 }
 
-// The tally's row of an answer: 0 bookings, 1 sweeps, then codes 3 to 10.
-fn row(code: u64, accepted: u64) -> u64
-    ensures { λ r. ⌜ r ≡ rowAt code accepted ⌝ }
+// The seven numbers of a run's one answer.
+fn answer(numbers: &[u64]) -> Answer
+    requires { ⌜ length (now numbers) ≡ 7 ⌝ }
+    ensures { λ a. ⌜ numbersOf a ≡ now (numbers .entry) ⌝ }
 {
-    if code == 0 { accepted } else { code - 1 }
-}
-
-// One record on a whole link.
-pub fn step(mem: &mut [u8], tally: Tally, bytes: &[u8]) -> Done
-    requires { ⌜ Whole (now mem) ⌝ }
-    ensures { λ d. ⌜ Steps tally (now (bytes .entry)) d (now (mem .entry)) (now (mem .exit)) ⌝ }
-{
-    let read = order::read(bytes);
-    match read {
-        Record::Booking {
-            arrival,
-            length,
-            lines,
-            used,
-        } => {
-            let answer = booking::book(mem, arrival, length, lines);
-            let after = rule::tally::raise(tally, row(answer.code, 0));
-            Done {
-                tally: after,
-                acted: Acted { answer, used },
-            }
-        }
-        Record::Sweep { moment, used } => {
-            let answer = sweeping::sweep(mem, moment);
-            let after = rule::tally::raise(tally, row(answer.code, 1));
-            Done {
-                tally: after,
-                acted: Acted { answer, used },
-            }
-        }
-        _ => refused(11, tally),
+    Answer {
+        code: numbers[0],
+        channel: numbers[1],
+        line: numbers[2],
+        start: numbers[3],
+        finish: numbers[4],
+        count: numbers[5],
+        dropped: numbers[6],
     }
 }
 
+// With room for seven numbers a run ends after the first record: no byte after it is read.
 pub fn act(mem: &mut [u8], tally: Tally, bytes: &[u8]) -> Done
     ensures { λ d. ⌜ Acts tally (now (bytes .entry)) d (now (mem .entry)) (now (mem .exit)) ⌝ }
 {
-    if !whole::whole(mem) {
+    let mut numbers = [0u64; 7];
+    let done = run(mem, tally, bytes, &mut numbers);
+    let ran = done.ran;
+    if ran.code == 2 {
         return refused(2, tally);
     }
-    step(mem, tally, bytes)
+    if ran.answered == 0 {
+        return refused(11, tally);
+    }
+    let after = done.tally;
+    Done {
+        tally: after,
+        acted: Acted {
+            answer: answer(&numbers),
+            used: ran.place,
+        },
+    }
 }

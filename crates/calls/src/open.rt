@@ -29,7 +29,7 @@ fn delays_of(bytes: &[u8], n: usize) -> [u64; 16]
 pub fn open(mem: &mut [u8], room: u64, bytes: &[u8]) -> Opened
     ensures { λ o. ⌜ Opens room (now (bytes .entry)) o (now (mem .entry)) (now (mem .exit)) ⌝ }
 {
-    let read = order::read(bytes);
+    let read = order::read_opening(bytes);
     match read {
         Record::Opening {
             channels,

@@ -10,8 +10,8 @@ use Rattle.numbers.specs.Digits.{field}
 use Rattle.numbers.proofs.DigitLaws.{field-front}
 use Rattle.rule.specs.Order.{booking, sweep}
 use Rattle.order.specs.declared.Record.{Record}
-use Rattle.order.specs.Records.{Reading, unread, opening, order, Mark, OL, OB, OC, OS, unknown, mark, whole, delaysAt, linesOf, openingOf, bookingOf, compactOf, sweepOf, byMark, reading, usedBy}
-use Rattle.order.specs.Read.{meant, Narrow, Reads}
+use Rattle.order.specs.Records.{Reading, unread, opening, order, Mark, OL, OB, OC, OS, unknown, mark, whole, delaysAt, linesOf, openingOf, bookingOf, compactOf, sweepOf, byMark, reading, usedBy, openingOnly}
+use Rattle.order.specs.Read.{meant, Narrow, Reads, ReadsOpening}
 
 -- two byte strings with the same first n bytes: the second is as long as those
 front-length : (n : ℕ) (s t : List ℕ) → take n s ≡ take n t → n ≤ length s → n ≤ length t
@@ -95,3 +95,12 @@ alone s t = elim (case-le 2 (length s)) [
 -- an answer that says what is read
 pub reads : (s : List ℕ) (r : Record) → meant s r ≡ reading s → Narrow r → Reads s r
 reads s r q n = record { is = q; narrow = n; inside = inside s; alone = alone s }
+
+-- the same of one that speaks of openings alone
+opening-inside : (n : ℕ) (x : Reading) → usedBy x ≤ n → usedBy (openingOnly x) ≤ n
+opening-inside n (unread x) h = h
+opening-inside n (opening u o) h = h
+opening-inside n (order u o) h = omega arith
+
+pub reads-opening : (s : List ℕ) (r : Record) → meant s r ≡ openingOnly (reading s) → Narrow r → ReadsOpening s r
+reads-opening s r q n = record { is = q; narrow = n; inside = opening-inside (length s) (reading s) (inside s); alone = alone s }

@@ -11,7 +11,7 @@ use Rattle.rule.specs.Settings.{longest}
 use Rattle.rule.specs.Order.{booking, sweep}
 use Rattle.order.specs.declared.Record.{Record}
 use Rattle.order.specs.declared.Record.the-variants.{Opening, Booking, Sweep, Refused}
-use Rattle.order.specs.Records.{Reading, unread, opening, order, delaysAt, reading, usedBy}
+use Rattle.order.specs.Records.{Reading, unread, opening, order, delaysAt, reading, usedBy, openingOnly}
 
 -- each case in 01's values; an opening's delays stay in its bytes
 abbrev pub meant : List ℕ → Record → Reading
@@ -33,6 +33,13 @@ pub record Reads (bytes : List ℕ) (r : Record) : Type 0 where
   pub narrow : Narrow r
   pub inside : usedBy (reading bytes) ≤ length bytes
   -- "bytes after the record are not read": whoever begins with the same record is read alike
+  pub alone : (other : List ℕ) → 1 ≤ usedBy (reading bytes) → take (usedBy (reading bytes)) bytes ≡ take (usedBy (reading bytes)) other → reading other ≡ reading bytes
+
+-- what `read_opening` promises of its answer r to these bytes
+pub record ReadsOpening (bytes : List ℕ) (r : Record) : Type 0 where
+  pub is : meant bytes r ≡ openingOnly (reading bytes)
+  pub narrow : Narrow r
+  pub inside : usedBy (openingOnly (reading bytes)) ≤ length bytes
   pub alone : (other : List ℕ) → 1 ≤ usedBy (reading bytes) → take (usedBy (reading bytes)) bytes ≡ take (usedBy (reading bytes)) other → reading other ≡ reading bytes
 
 -- the delay of line i + 1 in an opening, 0 where the bytes do not reach so far

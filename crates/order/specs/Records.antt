@@ -75,3 +75,9 @@ abbrev pub usedBy : Reading → ℕ
 usedBy (unread x) = 0
 usedBy (opening n o) = n
 usedBy (order n o) = n
+
+-- for opening, "any mark but OL" is code 11 too
+abbrev pub openingOnly : Reading → Reading
+openingOnly (unread x) = unread x
+openingOnly (opening n o) = opening n o
+openingOnly (order n o) = unread 11

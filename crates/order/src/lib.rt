@@ -3,7 +3,7 @@
 ghost use mathlib.Core.Path.{_≡_};
 ghost use Prim.Native.Nat.{_^_, _≤_, _<_};
 ghost use Rattle.order.specs.Records.{openingOf, bookingOf, compactOf, sweepOf};
-ghost use Rattle.order.specs.Read.{meant, Narrow, Reads, delayOf};
+ghost use Rattle.order.specs.Read.{meant, Narrow, Reads, ReadsOpening, delayOf};
 use numbers::digits::field;
 
 // What a record says, with its length, or the code it is refused with. A compact booking is a booking with no line
@@ -110,6 +110,21 @@ pub fn read(s: &[u8]) -> Record
         0x4F42 => booking(s),
         0x4F43 => compact(s),
         0x4F53 => sweep(s),
+        _ => Record::Refused { code: 11 },
+    }
+}
+
+// What an opening at the start of the bytes says; any other mark is refused. Opening has a reader of its own so that `read`,
+// called by a run's loop alone, is compiled into that loop (docs/DECISIONS.md).
+pub fn read_opening(s: &[u8]) -> Record
+    ensures { λ r. ⌜ ReadsOpening (now (s .entry)) r ⌝ }
+{
+    if s.len() < 2 {
+        return Record::Refused { code: 11 };
+    }
+    let mark = field(s, 0, 2) as u16;
+    match mark {
+        0x4F4C => opening(s),
         _ => Record::Refused { code: 11 },
     }
 }

@@ -1,14 +1,15 @@
--- `calls::act::act`: the check, then the step. Assumes nothing.
-use mathlib.Core.Logic.{inl, inr}
+-- `calls::act::act`: a run with room for one answer, and what it says of the record at its start. Assumes nothing.
 use mathlib.Core.Path.{refl}
-use borrow.Author.Tests.{not-true, not-false}
-use Rattle.calls.proofs.Deciding.{yes-whole, no-whole}
+use Rattle.calls.proofs.Acting.{act-spoiled, act-unread, act-done}
 use borrow.Author.Needs.{needs}
 use Rattle.calls.proofs.act.act.Statement.{statement}
 use Rattle.calls.proofs.act.act.Tie as tie
 
-whole-requires : tie.Need-whole-requires
-whole-requires c κs = search needs
+slice-aggregate-run : tie.Need-slice-aggregate-run
+slice-aggregate-run c = search needs
+
+run-requires : tie.Need-run-requires
+run-requires c κs = search needs
 
 refused-requires : tie.Need-refused-requires
 refused-requires c κs = search needs
@@ -17,25 +18,42 @@ same-length : tie.Need-same-length
 same-length c = search needs
 
 returns : tie.Need-returns
-returns c = inr (no-whole _ (c .before .before .whole .result) (c .before .before .whole .ensures) (not-true _ (c .before .if1 .taken)), record { answer = c .refused .ensures; same = refl })
+returns c = act-spoiled (c .before .before .before .before .before .before .before .before .before .before .before .before .args .tally) (c .before .before .before .before .before .before .before .before .before .before .before .before .args .bytes .now) (c .before .before .before .before .before .before .before .run .result) (c .before .before .before .before .before .before .before .before .before .before .before .before .args .mem .now) (c .before .before .before .before .before .before .before .run .last .0) _ (c .before .before .before .before .before .before .before .run .last .1 .1 .1 .0) refl (c .before .before .before .before .before .before .before .run .ensures) _ (c .before .if1 .taken) (c .refused .ensures)
 
-step-requires : tie.Need-step-requires
-step-requires c κs = yes-whole _ (c .before .before .whole .result) (c .before .before .whole .ensures) (not-false _ (c .before .if1 .left))
+refused-requires-2 : tie.Need-refused-requires-2
+refused-requires-2 c κs = search needs
 
 same-length-2 : tie.Need-same-length-2
 same-length-2 c = search needs
 
 returns-2 : tie.Need-returns-2
-returns-2 c = let w = yes-whole _ (c .before .before .before .before .before .whole .result) (c .before .before .before .before .before .whole .ensures) (not-false _ (c .before .before .before .before .if1 .left)) in inl (w .0, w .1, w .2, c .before .before .step .ensures (w .0) (w .1) (w .2))
+returns-2 c = act-unread (c .before .before .before .before .before .before .before .before .before .before .before .before .before .before .args .tally) (c .before .before .before .before .before .before .before .before .before .before .before .before .before .before .args .bytes .now) (c .before .before .before .before .before .before .before .before .before .run .result) (c .before .before .before .before .before .before .before .before .before .before .before .before .before .before .args .mem .now) (c .before .before .before .before .before .before .before .before .before .run .last .0) _ (c .before .before .before .before .before .before .before .before .before .run .last .1 .1 .1 .0) refl (c .before .before .before .before .before .before .before .before .before .run .ensures) _ (c .before .before .before .if1 .left) (c .before .if2 .taken) (c .refused2 .ensures)
+
+slice-aggregate-answer : tie.Need-slice-aggregate-answer
+slice-aggregate-answer c = search needs
+
+answer-requires : tie.Need-answer-requires
+answer-requires c κs = search needs
+
+same-length-3 : tie.Need-same-length-3
+same-length-3 c = search needs
+
+returns-3 : tie.Need-returns-3
+returns-3 c = act-done (c .before .before .before .before .before .before .before .before .before .before .before .before .before .before .before .before .args .tally) (c .before .before .before .before .before .before .before .before .before .before .before .before .before .before .before .before .args .bytes .now) (c .before .before .before .before .before .before .before .before .before .before .before .run .result) (c .before .before .before .before .before .before .before .before .before .before .before .before .before .before .before .before .args .mem .now) (c .before .before .before .before .before .before .before .before .before .before .before .run .last .0) _ (c .before .before .before .before .before .before .before .before .before .before .before .run .last .1 .1 .1 .0) refl (c .before .before .before .before .before .before .before .before .before .before .before .run .ensures) _ (c .before .before .before .before .before .if1 .left) (c .before .before .before .if2 .left) (c .answer .ensures)
 
 pub act-spec : {M : Type 1} → statement M
 act-spec =
     tie.close
     (tie.spec
-    whole-requires
+    slice-aggregate-run
+    run-requires
     refused-requires
     same-length
     returns
-    step-requires
+    refused-requires-2
     same-length-2
-    returns-2)
+    returns-2
+    slice-aggregate-answer
+    answer-requires
+    same-length-3
+    returns-3)

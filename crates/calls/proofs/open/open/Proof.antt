@@ -6,17 +6,17 @@ use borrow.Author.Needs.{needs}
 use Rattle.calls.proofs.open.open.Statement.{statement}
 use Rattle.calls.proofs.open.open.Tie as tie
 
-read-requires : tie.Need-read-requires
-read-requires c κs = search needs
+read-opening-requires : tie.Need-read-opening-requires
+read-opening-requires c κs = search needs
 
 enum-known-read : tie.Need-enum-known-read
 enum-known-read c = search needs
 
 returns : tie.Need-returns
-returns c = too-many _ _ (c .before .before .before .before .read .ensures) (c .before .before .read2 .given .0 .0) (c .before .before .read2 .given .0 .1 .0) (c .before .before .read2 .given .0 .1 .1 .0) (c .before .before .read2 .given .0 .1 .1 .1 .0) (c .before .before .read2 .given .0 .1 .1 .1 .1 .0) (c .before .before .read2 .given .1) _ _ (c .if1 .taken)
+returns c = too-many _ _ (c .before .before .before .before .read-opening .ensures) (c .before .before .read .given .0 .0) (c .before .before .read .given .0 .1 .0) (c .before .before .read .given .0 .1 .1 .0) (c .before .before .read .given .0 .1 .1 .1 .0) (c .before .before .read .given .0 .1 .1 .1 .1 .0) (c .before .before .read .given .1) _ _ (c .if1 .taken)
 
 delays-of-requires : tie.Need-delays-of-requires
-delays-of-requires c κs = (c .if1 .left, long _ _ (c .before .before .before .before .read .ensures) (c .before .before .read2 .given .0 .0) (c .before .before .read2 .given .0 .1 .0) (c .before .before .read2 .given .0 .1 .1 .0) (c .before .before .read2 .given .0 .1 .1 .1 .0) (c .before .before .read2 .given .0 .1 .1 .1 .1 .0) (c .before .before .read2 .given .1))
+delays-of-requires c κs = (c .if1 .left, long _ _ (c .before .before .before .before .read-opening .ensures) (c .before .before .read .given .0 .0) (c .before .before .read .given .0 .1 .0) (c .before .before .read .given .0 .1 .1 .0) (c .before .before .read .given .0 .1 .1 .1 .0) (c .before .before .read .given .0 .1 .1 .1 .1 .0) (c .before .before .read .given .1))
 
 array-share-prefix-delays : tie.Need-array-share-prefix-delays
 array-share-prefix-delays c = search needs
@@ -25,28 +25,28 @@ slice-aggregate-open : tie.Need-slice-aggregate-open
 slice-aggregate-open c = simp length-take (omega (arith, c .before .before .delays-of .ensures .0, c .before .before .before .if1 .left))
 
 open-requires : tie.Need-open-requires
-open-requires c κs = floor-in _ _ (c .before .before .before .before .before .before .before .read .ensures) (c .before .before .before .before .before .read2 .given .0 .0) (c .before .before .before .before .before .read2 .given .0 .1 .0) (c .before .before .before .before .before .read2 .given .0 .1 .1 .0) (c .before .before .before .before .before .read2 .given .0 .1 .1 .1 .0) (c .before .before .before .before .before .read2 .given .0 .1 .1 .1 .1 .0) (c .before .before .before .before .before .read2 .given .1)
+open-requires c κs = floor-in _ _ (c .before .before .before .before .before .before .before .read-opening .ensures) (c .before .before .before .before .before .read .given .0 .0) (c .before .before .before .before .before .read .given .0 .1 .0) (c .before .before .before .before .before .read .given .0 .1 .1 .0) (c .before .before .before .before .before .read .given .0 .1 .1 .1 .0) (c .before .before .before .before .before .read .given .0 .1 .1 .1 .1 .0) (c .before .before .before .before .before .read .given .1)
 
 same-length : tie.Need-same-length
 same-length c = search needs
 
 returns-2 : tie.Need-returns-2
-returns-2 c = accepted _ _ (c .before .before .before .before .before .before .before .before .before .before .before .read .ensures) (c .before .before .before .before .before .before .before .before .before .read2 .given .0 .0) (c .before .before .before .before .before .before .before .before .before .read2 .given .0 .1 .0) (c .before .before .before .before .before .before .before .before .before .read2 .given .0 .1 .1 .0) (c .before .before .before .before .before .before .before .before .before .read2 .given .0 .1 .1 .1 .0) (c .before .before .before .before .before .before .before .before .before .read2 .given .0 .1 .1 .1 .1 .0) (c .before .before .before .before .before .before .before .before .before .read2 .given .1) _ _ _ _ _ (c .before .before .before .before .before .before .delays-of .ensures .1) (c .before .before .before .«open» .ensures) (c .if2 .taken)
+returns-2 c = accepted _ _ (c .before .before .before .before .before .before .before .before .before .before .before .read-opening .ensures) (c .before .before .before .before .before .before .before .before .before .read .given .0 .0) (c .before .before .before .before .before .before .before .before .before .read .given .0 .1 .0) (c .before .before .before .before .before .before .before .before .before .read .given .0 .1 .1 .0) (c .before .before .before .before .before .before .before .before .before .read .given .0 .1 .1 .1 .0) (c .before .before .before .before .before .before .before .before .before .read .given .0 .1 .1 .1 .1 .0) (c .before .before .before .before .before .before .before .before .before .read .given .1) _ _ _ _ _ (c .before .before .before .before .before .before .delays-of .ensures .1) (c .before .before .before .«open» .ensures) (c .if2 .taken)
 
 same-length-2 : tie.Need-same-length-2
 same-length-2 c = search needs
 
 returns-3 : tie.Need-returns-3
-returns-3 c = turned-down _ _ (c .before .before .before .before .before .before .before .before .before .before .before .read .ensures) (c .before .before .before .before .before .before .before .before .before .read2 .given .0 .0) (c .before .before .before .before .before .before .before .before .before .read2 .given .0 .1 .0) (c .before .before .before .before .before .before .before .before .before .read2 .given .0 .1 .1 .0) (c .before .before .before .before .before .before .before .before .before .read2 .given .0 .1 .1 .1 .0) (c .before .before .before .before .before .before .before .before .before .read2 .given .0 .1 .1 .1 .1 .0) (c .before .before .before .before .before .before .before .before .before .read2 .given .1) _ _ _ _ _ (c .before .before .before .before .before .before .delays-of .ensures .1) (c .before .before .before .«open» .ensures) (c .if2 .left)
+returns-3 c = turned-down _ _ (c .before .before .before .before .before .before .before .before .before .before .before .read-opening .ensures) (c .before .before .before .before .before .before .before .before .before .read .given .0 .0) (c .before .before .before .before .before .before .before .before .before .read .given .0 .1 .0) (c .before .before .before .before .before .before .before .before .before .read .given .0 .1 .1 .0) (c .before .before .before .before .before .before .before .before .before .read .given .0 .1 .1 .1 .0) (c .before .before .before .before .before .before .before .before .before .read .given .0 .1 .1 .1 .1 .0) (c .before .before .before .before .before .before .before .before .before .read .given .1) _ _ _ _ _ (c .before .before .before .before .before .before .delays-of .ensures .1) (c .before .before .before .«open» .ensures) (c .if2 .left)
 
 returns-4 : tie.Need-returns-4
-returns-4 c = no-opening _ _ (c .before .read .ensures) _ _ (c .match .keys2)
+returns-4 c = no-opening _ _ (c .before .read-opening .ensures) _ _ (c .match .keys2)
 
 pub open-spec : {M : Type 1} → statement M
 open-spec =
     tie.close
     (tie.spec
-    read-requires
+    read-opening-requires
     enum-known-read
     returns
     delays-of-requires

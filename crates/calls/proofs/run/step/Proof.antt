@@ -1,8 +1,8 @@
--- `calls::act::step`: the reader's case, then the booking's or the sweep's own promise. Assumes nothing.
+-- `calls::run::step`: the reader's case, then the booking's or the sweep's own promise. Assumes nothing.
 use Rattle.calls.proofs.Stepping.{booking-in, booked-steps, sweep-in, swept-steps, no-order}
 use borrow.Author.Needs.{needs}
-use Rattle.calls.proofs.act.step.Statement.{statement}
-use Rattle.calls.proofs.act.step.Tie as tie
+use Rattle.calls.proofs.run.step.Statement.{statement}
+use Rattle.calls.proofs.run.step.Tie as tie
 
 read-requires : tie.Need-read-requires
 read-requires c κs = search needs
@@ -16,9 +16,6 @@ book-requires c κs = (booking-in _ _ (c .before .before .before .before .read .
 row-requires : tie.Need-row-requires
 row-requires c κs = search needs
 
-raise-requires : tie.Need-raise-requires
-raise-requires c κs = search needs
-
 enum-known-read-2 : tie.Need-enum-known-read-2
 enum-known-read-2 c = search needs
 
@@ -28,26 +25,20 @@ sweep-requires c κs = (sweep-in _ _ (c .before .before .before .before .read .e
 row-requires-2 : tie.Need-row-requires-2
 row-requires-2 c κs = search needs
 
-raise-requires-2 : tie.Need-raise-requires-2
-raise-requires-2 c κs = search needs
-
-refused-requires : tie.Need-refused-requires
-refused-requires c κs = search needs
-
 same-length : tie.Need-same-length
 same-length c = search needs
 
 returns : tie.Need-returns
-returns c = booked-steps _ _ (c .before .before .before .before .before .before .before .before .before .read .ensures) (c .before .before .before .before .before .before .before .read2 .given .0 .0) (c .before .before .before .before .before .before .before .read2 .given .0 .1 .0) (c .before .before .before .before .before .before .before .read2 .given .0 .1 .1 .0) (c .before .before .before .before .before .before .before .read2 .given .0 .1 .1 .1 .0) (c .before .before .before .before .before .before .before .read2 .given .1) _ _ _ _ _ _ (c .before .before .before .before .book .ensures) (c .before .row .ensures) (c .raise .ensures)
+returns c = booked-steps _ _ (c .before .before .before .before .before .before .before .before .read .ensures) (c .before .before .before .before .before .before .read2 .given .0 .0) (c .before .before .before .before .before .before .read2 .given .0 .1 .0) (c .before .before .before .before .before .before .read2 .given .0 .1 .1 .0) (c .before .before .before .before .before .before .read2 .given .0 .1 .1 .1 .0) (c .before .before .before .before .before .before .read2 .given .1) _ _ _ _ (c .before .before .before .book .ensures) (c .row .ensures)
 
 same-length-2 : tie.Need-same-length-2
 same-length-2 c = search needs
 
 returns-2 : tie.Need-returns-2
-returns-2 c = swept-steps _ _ (c .before .before .before .before .before .before .before .before .before .read .ensures) (c .before .before .before .before .before .before .before .read3 .given .0 .0) (c .before .before .before .before .before .before .before .read3 .given .0 .1 .0) (c .before .before .before .before .before .before .before .read3 .given .1) _ _ _ _ _ _ (c .before .before .before .before .sweep .ensures) (c .before .row2 .ensures) (c .raise2 .ensures)
+returns-2 c = swept-steps _ _ (c .before .before .before .before .before .before .before .before .read .ensures) (c .before .before .before .before .before .before .read3 .given .0 .0) (c .before .before .before .before .before .before .read3 .given .0 .1 .0) (c .before .before .before .before .before .before .read3 .given .1) _ _ _ _ (c .before .before .before .sweep .ensures) (c .row2 .ensures)
 
 returns-3 : tie.Need-returns-3
-returns-3 c = no-order _ _ (c .before .before .read .ensures) (c .before .match .keys3) _ _ _ (c .refused .ensures)
+returns-3 c = no-order _ _ (c .before .read .ensures) (c .match .keys3) _
 
 pub step-spec : {M : Type 1} → statement M
 step-spec =
@@ -57,12 +48,9 @@ step-spec =
     enum-known-read
     book-requires
     row-requires
-    raise-requires
     enum-known-read-2
     sweep-requires
     row-requires-2
-    raise-requires-2
-    refused-requires
     same-length
     returns
     same-length-2

@@ -1,8 +1,8 @@
--- `calls::act::row`: the row of an accepted order, or that of its code. Assumes nothing.
+-- `calls::run::row`: the row of an accepted order, or that of its code. Assumes nothing.
 use native.Mathlib.Omega.{arith}
 use borrow.Author.Tests.{eq-eqb, ne-eqb}
-use Rattle.calls.proofs.act.row.Statement.{statement}
-use Rattle.calls.proofs.act.row.Tie as tie
+use Rattle.calls.proofs.run.row.Statement.{statement}
+use Rattle.calls.proofs.run.row.Tie as tie
 
 returns : tie.Need-returns
 returns c = simp (eq-eqb _ _ (c .if1 .taken))
