@@ -21,15 +21,17 @@ use Rattle.shape.specs.Tree.{Tree, height}
 use Rattle.shape.specs.TreeLaws.{height-size}
 use Rattle.shape.specs.Visits.{Result, published}
 use Rattle.shape.specs.SearchLaws.{search-visits}
+use Rattle.shape.specs.HeightLaws.{height-few}
 use Rattle.node.specs.Rep.{Stands}
+use Rattle.node.specs.Paths.{longestWay}
 use Rattle.search.specs.declared.Found.{Found}
-use Rattle.search.specs.Search.{Searchable, foundOf, found-visits, found-some, found-none}
+use Rattle.search.specs.Search.{Searchable, Notes, foundOf, found-visits, found-some, found-none}
 use Rattle.state.specs.State.{State}
 use Rattle.state.specs.Act.{Seeking, tryNext, seek}
 use Rattle.memory.specs.Holds.{Holds, Whole}
 use Rattle.memory.proofs.Parts.{padded-at}
 use Rattle.memory.proofs.Whole.{root-stands}
-use Rattle.booking.specs.Book.{takenOf}
+use Rattle.booking.specs.Book.{takenOf, Pointed}
 
 -- a search that n visits went before
 abbrev pub after : ℕ → Seeking → Seeking
@@ -48,14 +50,14 @@ tried-low r h p i d = go (bit p i)
     go false q = absurd (false≢true q)
 
 -- ---- one start
-module _ (x : Found) (z : Result) (q : x ≡ foundOf z) (n : ℕ) (a : Start) (y : Seeking) where
-  fit : x .found ≡ true → record { found = true; line = a .line; start = a .moment; key = x .key; end = x .end; count = n + x .visits } ≡ takenOf (after n (tryNext a (z .out) (z .visits) y))
-  fit h = rw (found-some x z q h, found-visits x z q)
+module _ (x : Found) (z : Result) (q : x ≡ foundOf (x .noted) z) (n : ℕ) (a : Start) (y : Seeking) where
+  fit : x .found ≡ true → record { found = true; line = a .line; start = a .moment; key = x .key; end = x .end; count = n + x .visits; noted = x .noted } ≡ takenOf (x .noted) (after n (tryNext a (z .out) (z .visits) y))
+  fit h = rw (found-some x (x .noted) z q h, found-visits x (x .noted) z q)
 
   past : x .found ≡ false → after n (tryNext a (z .out) (z .visits) y) ≡ after (n + x .visits) y
   past h =
-      let e : n + (z .visits + y .count) ≡ n + x .visits + y .count = omega (arith, found-visits x z q) in
-      rw (found-none x z q h, e)
+      let e : n + (z .visits + y .count) ≡ n + x .visits + y .count = omega (arith, found-visits x (x .noted) z q) in
+      rw (found-none x (x .noted) z q h, e)
 
 -- the most visits of one start
 abbrev pub most : ℕ
@@ -78,25 +80,30 @@ module _ (m : List ℕ) (r h p : ℕ) where
     low : (w : Whole m) → height (w .0 .tree) < mostRoom
     low w = omega (arith, height-size (w .0 .tree), w .1 .within, in-bounds (w .0 .settings) (w .1 .bounds) .room)
 
-    pub searchable : Whole m → Searchable m root
-    searchable w = (w .0 .tree, root-stands (w .2) root er, omega (arith, low w))
+    pub searchable : Whole m → (ws : List ℕ) → longestWay ≤ length ws → Searchable m root ws
+    searchable w ws l =
+        (w .0 .tree, root-stands (w .2) root er, height-few (w .0 .tree) (w .1 .balanced) (omega (arith, w .1 .within, in-bounds (w .0 .settings) (w .1 .bounds) .room)), l)
+
+    -- what was found is where the way leads
+    pub points : (ws : List ℕ) → longestWay ≤ length ws → (x : Found) → Notes m root ws x → x .found ≡ true → Pointed m ws (x .noted) (x .key) (x .end)
+    points ws l x g h = record { long = l; place = x .place; reaches = rw er at (g h) }
 
     -- x is what is found at the start b
     abbrev pub Finds : (b : ℕ) → Found → Type 0
-    Finds b x = (t : Tree) → Stands m root t → x ≡ foundOf (published b (b + h) t)
+    Finds b x = (t : Tree) → Stands m root t → x ≡ foundOf (x .noted) (published b (b + h) t)
 
-    is : (s : State) → Holds m s → (b : ℕ) (x : Found) → Finds b x → x ≡ foundOf (published b (b + h) (s .tree))
+    is : (s : State) → Holds m s → (b : ℕ) (x : Found) → Finds b x → x ≡ foundOf (x .noted) (published b (b + h) (s .tree))
     is s H b x g = g (s .tree) (root-stands H root er)
 
     few-visits : Whole m → (b : ℕ) (x : Found) → Finds b x → x .visits ≤ most
     few-visits w b x g =
         let t = w .0 .tree in
-        omega (arith, found-visits x (published b (b + h) t) (is (w .0) (w .2) b x g), search-visits b (b + h) t, low w)
+        omega (arith, found-visits x (x .noted) (published b (b + h) t) (is (w .0) (w .2) b x g), search-visits b (b + h) t, low w)
 
     -- the undelayed start
     module _ (x : Found) (g : Finds r x) where
       pub at-once : x .found ≡ true → (s : State) → Holds m s
-          → record { found = true; line = 0; start = r; key = x .key; end = x .end; count = x .visits } ≡ takenOf (whole s)
+          → record { found = true; line = 0; start = r; key = x .key; end = x .end; count = x .visits; noted = x .noted } ≡ takenOf (x .noted) (whole s)
       at-once y s H = simp zero-add at (fit x (published r (r + h) (s .tree)) (is s H r x g) 0 (record { line = 0; moment = r }) (left s 0) y)
 
       pub going-first : Whole m → x .found ≡ false → Going (x .visits) 0
@@ -112,7 +119,7 @@ module _ (m : List ℕ) (r h p : ℕ) where
       lines-are s H = el ∙ H .heads 2 (omega arith)
 
       -- none is left
-      pub nowhere-left : lines ≤ i → (s : State) → Holds m s → record { found = false; line = 0; start = 0; key = 0; end = 0; count = count } ≡ takenOf (whole s)
+      pub nowhere-left : lines ≤ i → (s : State) → Holds m s → record { found = false; line = 0; start = 0; key = 0; end = 0; count = count; noted = 0 } ≡ takenOf 0 (whole s)
       nowhere-left l s H =
           let e : drop i (s .settings .delays) ≡ [] = drop-of-length-le (s .settings .delays) {i = i} (omega (arith, lines-are s H)) in
           let z : whole s ≡ after count (seek (s .tree) h (delayed r h p i [])) = rw e at (G .rest s H) in
@@ -154,7 +161,7 @@ module _ (m : List ℕ) (r h p : ℕ) where
               few-more = (omega (arith, G .few, few-lines), few-visits w (r + d) x g)
 
               pub taken-here : x .found ≡ true → (s : State) → Holds m s
-                  → record { found = true; line = i + 1; start = r + d; key = x .key; end = x .end; count = count + x .visits } ≡ takenOf (whole s)
+                  → record { found = true; line = i + 1; start = r + d; key = x .key; end = x .end; count = count + x .visits; noted = x .noted } ≡ takenOf (x .noted) (whole s)
               taken-here z s H =
                   rw (add-one, here s H) (
                   fit x (published (r + d) (r + d + h) (s .tree)) (is s H (r + d) x g) count (record { line = suc i; moment = r + d }) (left s (suc i)) z)

@@ -4,14 +4,17 @@ ghost use Prim.Native.Nat.{_+_, _≤_, _<_, _^_};
 ghost use Rattle.rule.specs.Moments.{lastMoment};
 ghost use Rattle.rule.specs.Settings.{longest};
 ghost use Rattle.rule.specs.Answer.{seven, numbersOf, refused};
+ghost use Rattle.node.specs.Paths.{longestWay};
+ghost use lib.ListN.{length};
 ghost use Rattle.state.specs.State.{State};
 ghost use Rattle.state.specs.Sound.{Sound};
 ghost use Rattle.memory.specs.Holds.{Holds, Whole};
-ghost use Rattle.booking.specs.Book.{Seeks, Splits, Splittable, overfull, Books};
+ghost use Rattle.booking.specs.Book.{Seeks, Points, Pointed, Splits, Splittable, overfull, Books};
 use numbers::words::get;
 use rule::answer::Answer;
 
-// What the search over the starts came to: the line, the start and the void taken, or none (then all are 0); and the visits.
+// What the search over the starts came to: the line, the start and the void taken, or none (then all are 0); the visits; and how
+// far down the way to the void is noted.
 pub struct Taken {
     pub found: bool,
     pub line: u64,
@@ -19,17 +22,18 @@ pub struct Taken {
     pub key: u64,
     pub end: u64,
     pub count: u64,
+    pub noted: usize,
 }
 
 // The starts tried, in their order, up to the first that has a fit.
-fn seek(mem: &[u8], arrival: u64, hold: u64, permitted: u64) -> Taken
-    requires { ⌜ (arrival + hold ≤ lastMoment) × (hold ≤ longest) ⌝ }
+fn seek(mem: &[u8], arrival: u64, hold: u64, permitted: u64, way: &mut [u16]) -> Taken
+    requires { ⌜ (arrival + hold ≤ lastMoment) × (hold ≤ longest) × (longestWay ≤ length (now way)) ⌝ }
     requires { ⌜ Whole (now mem) ⌝ }
-    ensures { λ x. ⌜ Seeks arrival hold permitted x (now (mem .entry)) ⌝ }
+    ensures { λ x. ⌜ Seeks arrival hold permitted x (now (mem .entry)) × Points (now (mem .entry)) (now (way .exit)) x ⌝ }
 {
     let root = get(mem, memory::ROOT) as usize;
     let lines = get(mem, memory::LINES) as usize;
-    let at_once = search::search(mem, root, arrival, arrival + hold);
+    let at_once = search::search(mem, root, arrival, arrival + hold, way);
     let mut count = at_once.visits;
     if at_once.found {
         return Taken {
@@ -39,6 +43,7 @@ fn seek(mem: &[u8], arrival: u64, hold: u64, permitted: u64) -> Taken
             key: at_once.key,
             end: at_once.end,
             count,
+            noted: at_once.noted,
         };
     }
     let mut i: usize = 0;
@@ -46,7 +51,7 @@ fn seek(mem: &[u8], arrival: u64, hold: u64, permitted: u64) -> Taken
         let d = get(mem, memory::DELAYS + i);
         if rule::starts::tried(arrival, hold, permitted, i as u64, d) {
             let start = arrival + d;
-            let x = search::search(mem, root, start, start + hold);
+            let x = search::search(mem, root, start, start + hold, way);
             count += x.visits;
             if x.found {
                 return Taken {
@@ -56,6 +61,7 @@ fn seek(mem: &[u8], arrival: u64, hold: u64, permitted: u64) -> Taken
                     key: x.key,
                     end: x.end,
                     count,
+                    noted: x.noted,
                 };
             }
         }
@@ -68,13 +74,14 @@ fn seek(mem: &[u8], arrival: u64, hold: u64, permitted: u64) -> Taken
         key: 0,
         end: 0,
         count,
+        noted: 0,
     }
 }
 
-// The void of the key, which ends at e, gives the time from r up to f: its pieces stay, if they are kept.
-fn split(mem: &mut [u8], key: u64, e: u64, r: u64, f: u64)
+// The void of the key, which ends at e, gives the time from r up to f: its pieces stay, if they are kept. The way to it is noted.
+fn split(mem: &mut [u8], way: &mut [u16], noted: usize, key: u64, e: u64, r: u64, f: u64)
     requires { ⌜ Splittable key e r f (now mem) ⌝ }
-    requires { ⌜ f ≤ lastMoment ⌝ }
+    requires { ⌜ (f ≤ lastMoment) × Pointed (now mem) (now way) noted key e ⌝ }
     ensures { λ _. ⌜ Splits key e r f (now (mem .entry)) (now (mem .exit)) ⌝ }
 {
     let floor = get(mem, memory::FLOOR);
@@ -82,7 +89,7 @@ fn split(mem: &mut [u8], key: u64, e: u64, r: u64, f: u64)
     let next = rule::key::key(f, rule::key::channel(key));
     let front = rule::kept::kept(floor, rule::key::start(key), r);
     if front {
-        memory::shorten(mem, key, r);
+        memory::shorten(mem, way, noted, key, r);
         if behind {
             memory::add(mem, next, e);
         }
@@ -136,7 +143,8 @@ pub fn book(mem: &mut [u8], arrival: u64, burst: u64, permitted: u64) -> Answer
         return refusal(code, 0);
     }
     let hold = rule::fit::hold(burst);
-    let x = seek(mem, arrival, hold, permitted);
+    let mut way = [0u16; memory::LONGEST_WAY];
+    let x = seek(mem, arrival, hold, permitted, &mut way);
     if !x.found {
         return refusal(7, x.count);
     }
@@ -145,7 +153,7 @@ pub fn book(mem: &mut [u8], arrival: u64, burst: u64, permitted: u64) -> Answer
     if too_many(mem, x.key, x.end, start, free) {
         return refusal(8, x.count);
     }
-    split(mem, x.key, x.end, start, free);
+    split(mem, &mut way, x.noted, x.key, x.end, start, free);
     Answer {
         code: 0,
         channel: rule::key::channel(x.key),

@@ -1,5 +1,5 @@
 -- The steps that leave every place where it is: another end, another floor. And what any step finds in a link.
-use mathlib.Core.Path.{_≡_, sym, _∙_}
+use mathlib.Core.Path.{_≡_, refl, sym, _∙_}
 use mathlib.Core.List.{List}
 use Prim.Native.Nat.{ℕ, _^_, _≤_, _<_}
 use native.Mathlib.Omega.{arith}
@@ -8,9 +8,12 @@ use Rattle.shape.specs.Tree.{place, size}
 use Rattle.shape.specs.HeightLaws.{height-few}
 use Rattle.shape.specs.ChangeLaws.{leaf-uses}
 use Rattle.tree.specs.Changes.{Sole, Alone, Sets}
+use Rattle.tree.specs.Ways.{Partway}
+use Rattle.tree.proofs.Paths.{path-partway}
+use Rattle.state.specs.Sound.{mostKey}
 use Rattle.state.specs.State.{State, places, shorten, with-floor}
 use Rattle.memory.specs.Holds.{After}
-use Rattle.memory.specs.Steps.{Link}
+use Rattle.memory.specs.Steps.{Link, Noting}
 use Rattle.memory.proofs.Parts.{below-most, part-put, part-tree, opened, closed}
 use Rattle.shape.specs.SizeLaws.{size-set}
 
@@ -50,6 +53,12 @@ module _ (m : List ℕ) (s : State) (L : Link m s) where
         let P = part-tree m m n _ (s .tree) (s .spares) (opened m s L) _ m′ _ (u .kept) (u .stands .rep)
         (λ z. omega (arith, L .placed .all z, leaf-uses z k (s .tree))) (λ z. omega (arith, L .placed .all z, u .many z)) in
         closed m m′ (shorten s k e) (L .holds .lines) (rw (u .stands .at ∙ et ∙ root-is, size-set k e (s .tree)) P)
+
+  -- the way noted is the beginning of the key's
+  pub partway : (ws : List ℕ) (d k : ℕ) → Noting m s ws d k → Partway m (word m 5) k d ws
+  partway ws d k N =
+      let r = N .reaches in
+      path-partway m (word m 5) d ws (r .down) (r .sub) (N .place) k (N .end) (r .stands) (r .inside) (N .long) (s .tree) 0 mostKey (sole (word m 5) refl) (N .ordered)
 
   pub refloored : (m′ : List ℕ) (moment : ℕ) → moment < 2 ^ 64 → m′ ≡ store m 4 moment → After m m′ (with-floor s moment)
   refloored m′ moment l e =

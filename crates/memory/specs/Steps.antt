@@ -3,7 +3,10 @@ use mathlib.Core.List.{List}
 use mathlib.Core.Path.{_≡_}
 use mathlib.Core.Bool.{Bool, true, false}
 use Prim.Native.Nat.{ℕ, _≤_, _<_}
+use lib.ListN.{length}
 use Rattle.shape.specs.Tree.{Balanced, Ord, low, size}
+use Rattle.numbers.specs.Words.{word}
+use Rattle.node.specs.Paths.{longestWay, Reaches}
 use Rattle.tree.specs.declared.Cut.{Cut}
 use Rattle.tree.specs.Changes.{Shrunk}
 use Rattle.state.specs.State.{State, shorten, add, drop, with-floor}
@@ -20,6 +23,18 @@ pub record Link (m : List ℕ) (s : State) : Type 0 where
 
 abbrev pub Some : List ℕ → Type 0
 Some m = (s : State) × Link m s
+
+-- one with rising keys, and a way noted from its root down to a tree that has a leaf of the key
+pub record Noting (m : List ℕ) (s : State) (ws : List ℕ) (d k : ℕ) : Type 0 where
+  pub link : Link m s
+  pub ordered : Ord 0 mostKey (s .tree)
+  pub long : longestWay ≤ length ws
+  pub place : ℕ
+  pub end : ℕ
+  pub reaches : Reaches m (word m 5) d ws place k end
+
+abbrev pub Noted : List ℕ → (d k : ℕ) → List ℕ → Type 0
+Noted ws d k m = (s : State) × Noting m s ws d k
 
 -- one with room for a void more, and one with a void that may go
 abbrev pub Roomy : List ℕ → Type 0

@@ -7,7 +7,7 @@ ghost use Rattle.rule.specs.Settings.{mostRoom};
 ghost use Rattle.node.specs.Layout.{Within, nodeAt, Saved};
 ghost use Rattle.memory.specs.Header.{need};
 ghost use Rattle.memory.specs.Holds.{spareNode};
-ghost use Rattle.memory.specs.Steps.{Some, Roomy, Several, Clearable, Taken, GivesBack, Shortens, Adds, Drops, DropsFirst, Refloors};
+ghost use Rattle.memory.specs.Steps.{Some, Noted, Roomy, Several, Clearable, Taken, GivesBack, Shortens, Adds, Drops, DropsFirst, Refloors};
 use numbers::words::get;
 use numbers::words::put;
 use tree::Cut;
@@ -30,6 +30,9 @@ pub const KEPT: usize = 6;
 pub const SPARE: usize = 7;
 
 pub const DELAYS: usize = 8;
+
+// The longest way from a root down to a leaf, in places.
+pub const LONGEST_WAY: usize = tree::LONGEST_WAY;
 
 // The height that marks a spare node.
 pub const SPARE_MARK: u64 = 2147483648;
@@ -64,13 +67,12 @@ pub fn give_spare(mem: &mut [u8], p: usize, k: u64)
     node::save(mem, p, n);
 }
 
-// Another end for the void of the key.
-pub fn shorten(mem: &mut [u8], key: u64, end: u64)
-    requires { ⌜ Some (now mem) ⌝ }
+// Another end for the void of the key, to which the way noted leads, at least in part.
+pub fn shorten(mem: &mut [u8], way: &mut [u16], noted: usize, key: u64, end: u64)
+    requires { ⌜ Noted (now way) noted key (now mem) ⌝ }
     ensures { λ _. ⌜ Shortens key end (now (mem .entry)) (now (mem .exit)) ⌝ }
 {
-    let root = get(mem, ROOT) as usize;
-    tree::set_end(mem, root, key, end);
+    tree::set_end_on(mem, way, noted, key, end);
 }
 
 // One void more.

@@ -5,7 +5,9 @@ use mathlib.Core.Logic.{_⊎_}
 use mathlib.Core.List.{List}
 use Prim.Native.Nat.{ℕ, suc, _<_}
 use lib.ListN.{length, getD}
+use Rattle.shape.specs.Tree.{Tree, In}
 use Rattle.node.specs.Layout.{nodeAt}
+use Rattle.node.specs.Rep.{Stands}
 
 -- a way from the root down to a leaf has at most this many places (a link's trees are lower)
 abbrev pub longestWay : ℕ
@@ -21,3 +23,10 @@ pub record Down (m : List ℕ) (t d : ℕ) (ws : List ℕ) : Type 0 where
   pub long : d < length ws
   pub first : getD ws 0 0 ≡ t
   pub steps : (i : ℕ) → i < d → Child m (getD ws i 0) (getD ws (suc i) 0)
+
+-- and to a tree that has the leaf p, of the key k and the end e
+pub record Reaches (m : List ℕ) (t d : ℕ) (ws : List ℕ) (p k e : ℕ) : Type 0 where
+  pub down : Down m t d ws
+  pub sub : Tree
+  pub stands : Stands m (getD ws d 0) sub
+  pub inside : In p k e sub

@@ -12,7 +12,7 @@ use Rattle.node.specs.declared.Node.{Node}
 use Rattle.node.specs.Layout.{highest, nodeAt}
 use Rattle.node.specs.Rep.{Stands}
 use Rattle.search.specs.declared.Descent.{Descent}
-use Rattle.search.specs.Search.{Searchable, Descended}
+use Rattle.search.specs.Search.{Descendable, Descended}
 use Rattle.search.proofs.Look.{leaf-here, inner-here, top-here}
 
 module _ (m : List ℕ) (p f : ℕ) (n : Node) (e : n ≡ nodeAt m p) where
@@ -38,5 +38,5 @@ module _ (m : List ℕ) (p f : ℕ) (n : Node) (e : n ≡ nodeAt m p) where
           rw (i .is) (record { ends = rw q (D .ends); counts = rw q (omega (arith, D .counts)) })
 
 -- its visits are few
-pub few : (m : List ℕ) (p f : ℕ) (d : Descent) → Searchable m p → ((t : Tree) → Stands m p t → Descended m f t d) → d .visits ≤ 2 * highest
+pub few : (m : List ℕ) (p f : ℕ) (d : Descent) → Descendable m p → ((t : Tree) → Stands m p t → Descended m f t d) → d .visits ≤ 2 * highest
 few m p f d s k = omega (arith, k (s .0) (s .1) .counts, descended-most f (s .0))

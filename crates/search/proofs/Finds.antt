@@ -20,10 +20,10 @@ use Rattle.node.specs.Rep.{Rep, Stands}
 use Rattle.search.specs.declared.Descent.{Descent}
 use Rattle.search.specs.declared.Way.{Way}
 use Rattle.search.specs.declared.Found.{Found}
-use Rattle.search.specs.Search.{Searchable, Descended, Marks, Walked, foundOf}
+use Rattle.search.specs.Search.{Descendable, Descended, Marks, Walked, foundOf}
 
 -- ---- the leaves that the search looks at stand in the memory
-rep-reached : (m : List ℕ) (r : ℕ) (t : Tree) → Rep m t → Rep m (reached r t)
+pub rep-reached : (m : List ℕ) (r : ℕ) (t : Tree) → Rep m t → Rep m (reached r t)
 unfolding Rep
 rep-reached m r (leaf p k e) h = h
 rep-reached m r (node p x y) h = elim (case-le (earliest y) r) [ inl z ↦ rw (z .1) (rep-reached m r y (h .3)) | inr z ↦ rw (z .1) (rep-reached m r x (h .2)) ]
@@ -50,7 +50,7 @@ pub record Marked (m : List ℕ) (p : ℕ) (d : Deepest) : Type 0 where
   pub is : d ≡ marked tree
   pub stands : Stands m p tree
 
-mark-of : (m : List ℕ) (b : Bool) (p : ℕ) (d : Deepest) → b ≡ true → Marks m b p d → Marked m p d
+pub mark-of : (m : List ℕ) (b : Bool) (p : ℕ) (d : Deepest) → b ≡ true → Marks m b p d → Marked m p d
 mark-of m b p unmarked h g = let z : _≡_ {A = ℕ} 0 1 = cc in absurd (omega arith)
 mark-of m b p (marked x) h g = record { tree = x; is = refl; stands = g .1 }
 
@@ -59,12 +59,12 @@ mark-none m b p unmarked h g = refl
 mark-none m b p (marked x) h g = cc
 
 module _ (m : List ℕ) (root r f : ℕ) (w : Way) (k : (t : Tree) → Stands m root t → Walked m r f t w) where
-  pub mark-searchable : w .marked ≡ true → Searchable m root → Searchable m (w .mark)
+  pub mark-searchable : w .marked ≡ true → Descendable m root → Descendable m (w .mark)
   mark-searchable h s =
       let M = mark-of m (w .marked) (w .mark) (deepest f (passed r (s .0))) h (k (s .0) (s .1) .marks) in
       (M .tree, M .stands, omega (arith, mark-lower r f (s .0) (M .tree) (M .is)))
 
-  pub walk-few : Searchable m root → w .visits ≤ 4 * highest + 1
+  pub walk-few : Descendable m root → w .visits ≤ 4 * highest + 1
   walk-few s = omega (arith, k (s .0) (s .1) .counts, search-visits r f (s .0))
 
   -- ---- what the search answers: n is the node of the leaf reached, o its start, b whether it fits
@@ -75,20 +75,20 @@ module _ (m : List ℕ) (root r f : ℕ) (w : Way) (k : (t : Tree) → Stands m 
     plain : length (path r t) + length (passed r t) + 0 ≡ w .visits
     plain = omega (arith, k t s .counts)
 
-    pub answer-leaf : b ≡ true
-        → _≡_ {A = Found} (record { found = true; place = w .leaf; key = n .lo; end = n .top; visits = w .visits }) (foundOf (published r f t))
-    answer-leaf h = let q = rw h at fitting-is in rw (q, plain)
+    pub answer-leaf : b ≡ true → (i : ℕ)
+        → _≡_ {A = Found} (record { found = true; place = w .leaf; key = n .lo; end = n .top; visits = w .visits; noted = i }) (foundOf i (published r f t))
+    answer-leaf h i = let q = rw h at fitting-is in rw (q, plain)
 
-    pub answer-none : b ≡ false → w .marked ≡ false
-        → _≡_ {A = Found} (record { found = false; place = 0; key = 0; end = 0; visits = w .visits }) (foundOf (published r f t))
-    answer-none h g =
+    pub answer-none : b ≡ false → w .marked ≡ false → (i : ℕ)
+        → _≡_ {A = Found} (record { found = false; place = 0; key = 0; end = 0; visits = w .visits; noted = i }) (foundOf i (published r f t))
+    answer-none h g i =
         let q = rw h at fitting-is in
         rw (q, mark-none m (w .marked) (w .mark) (deepest f (passed r t)) g (k t s .marks), plain)
 
     pub answer-deep : b ≡ false → w .marked ≡ true
-        → (d : Descent) → ((x : Tree) → Stands m (w .mark) x → Descended m f x d) → (y : Node) → y ≡ nodeAt m (d .place)
-        → _≡_ {A = Found} (record { found = true; place = d .place; key = y .lo; end = y .top; visits = w .visits + d .visits }) (foundOf (published r f t))
-    answer-deep h g d j y ey =
+        → (d : Descent) → ((x : Tree) → Stands m (w .mark) x → Descended m f x d) → (y : Node) → y ≡ nodeAt m (d .place) → (i : ℕ)
+        → _≡_ {A = Found} (record { found = true; place = d .place; key = y .lo; end = y .top; visits = w .visits + d .visits; noted = i }) (foundOf i (published r f t))
+    answer-deep h g d j y ey i =
         let q = rw h at fitting-is in
         let M = mark-of m (w .marked) (w .mark) (deepest f (passed r t)) g (k t s .marks) in
         let D = j (M .tree) (M .stands) in

@@ -2,3 +2,4 @@ pub mod Look
 pub mod Descents
 pub mod Walks
 pub mod Finds
+pub mod Treads

@@ -11,7 +11,7 @@ use Rattle.node.specs.declared.Node.{Node}
 use Rattle.node.specs.Layout.{Within, nodeAt}
 use Rattle.node.specs.Rep.{Rep, Stands, nodeOf}
 use Rattle.node.proofs.Reps.{heightOf, seen, within, tall}
-use Rattle.search.specs.Search.{Searchable}
+use Rattle.search.specs.Search.{Descendable}
 
 -- the place of a node's child on the side named
 abbrev pub childOf : Bool → Node → ℕ
@@ -71,5 +71,5 @@ module _ (b : Bool) {m : List ℕ} {p : ℕ} {n : Node} (e : n ≡ nodeAt m p) (
   pub child-lower : (t : Tree) → Stands m p t → nodeAt m (childOf b n) .height < nodeAt m p .height
   child-lower t s = let i = inner-here e h t s in omega (arith, tall (i .child b), i .lower b, tall s)
 
-  pub child-searchable : Searchable m p → Searchable m (childOf b n)
+  pub child-searchable : Descendable m p → Descendable m (childOf b n)
   child-searchable s = let i = inner-here e h (s .0) (s .1) in (_, i .child b, omega (arith, i .lower b))

@@ -80,7 +80,7 @@ module _ (m : List ℕ) (r f : ℕ) (t : Tree) (at : ℕ) (b : Bool) (p v : ℕ)
           }
 
     -- at the leaf
-    pub on-leaf : n .height ≡ 0 → Walked m r f t (record { leaf = at; marked = b; mark = p; visits = v + 1 })
-    on-leaf h =
+    pub on-leaf : n .height ≡ 0 → (d j : ℕ) → Walked m r f t (record { leaf = at; marked = b; mark = p; visits = v + 1; depth = d; turn = j })
+    on-leaf h d j =
         let w : OnWay r f t (leaf at (n .lo) (n .top)) (o .mark) v = rw (leaf-here e h (o .here) (o .reached)) at (o .way) in
         record { ends = rw (← e) (sym (w .leads)); marks = rw (← w .marks) (o .marks); counts = omega (arith, w .counts) }

@@ -1,7 +1,7 @@
 -- The steps of noting a way down: one place more, as long as the place reached is no leaf's.
 use mathlib.Core.Path.{_≡_, refl, sym, ap, _∙_}
 use mathlib.Core.Logic.{inl, inr}
-use mathlib.Core.List.{List}
+use mathlib.Core.List.{List, _∷_}
 use Prim.Native.Nat.{ℕ, zero, suc, _+_, _<_, _≤_}
 use native.Mathlib.Decide.{ℕ-discrete}
 use native.Mathlib.Omega.{arith}
@@ -13,7 +13,7 @@ use Rattle.node.specs.declared.Node.{Node}
 use Rattle.node.specs.Layout.{Within, nodeAt}
 use Rattle.node.specs.Paths.{longestWay}
 use Rattle.tree.specs.Changes.{Alone}
-use Rattle.tree.specs.Ways.{Leads, Way}
+use Rattle.tree.specs.Ways.{Leads, Way, Partway}
 use Rattle.node.proofs.Reps.{tall}
 use Rattle.tree.proofs.Setting.{within-alone, down}
 
@@ -28,10 +28,34 @@ pub record Tracing (m : List ℕ) (t k : ℕ) (ws0 ws : List ℕ) (at d : ℕ) (
   pub first : getD ws 0 0 ≡ t
   pub leads : (i : ℕ) → i < d → Leads m k (getD ws i 0) (getD ws (suc i) 0)
 
-pub tracing-start : (m : List ℕ) (t k : ℕ) (ws : List ℕ) (n : Node) → nodeAt m t .height < length ws → Alone m t → n ≡ nodeAt m t → Tracing m t k (set ws 0 t) (set ws 0 t) t 0 n
-tracing-start m t k ws n h a e =
-    let f = getD-set-same ws 0 t 0 (omega arith) in
-    record { read = e; alone = a; len = refl; room = omega (arith, length-set ws 0 t); short = omega (arith, a .1 .low, tall (a .1 .stands)); here = f; first = f; leads = λ i l. absurd (omega arith) }
+-- the places noted already go down a tree that stands alone, one lower at each step
+module _ (m : List ℕ) (t k : ℕ) (ws : List ℕ) (d : ℕ) (P : Partway m t k d ws) where
+  abbrev At : ℕ → Type 0
+  At i = Alone m (getD ws i 0) × (nodeAt m (getD ws i 0) .height + i < longestWay)
+
+  noted-at : (i : ℕ) → i ≤ d → At i
+  noted-at zero h = rw (P .first) (P .alone, omega (arith, P .alone .1 .low, tall (P .alone .1 .stands)))
+  noted-at (suc i) h =
+      let A = noted-at i (omega arith) in
+      let L = P .leads i (omega arith) in
+      let D = down m (getD ws i 0) (nodeAt m (getD ws i 0)) refl (L .inner) (ltb k (nodeAt m (getD ws i 0) .split)) (getD ws (suc i) 0) _ (L .to) refl (A .0) in
+      (D .near-alone, omega (arith, A .1, D .lower))
+
+  pub noted-low : (d < longestWay) × (d < length ws)
+  noted-low = omega (arith, noted-at d (omega arith) .1, P .long)
+
+  pub noted-in : Within m (getD ws d 0)
+  noted-in = within-alone m (getD ws d 0) (noted-at d (omega arith) .0)
+
+  pub tracing-start : (n : Node) → n ≡ nodeAt m (getD ws d 0) → Tracing m t k ws ws (getD ws d 0) d n
+  tracing-start n e =
+      let A = noted-at d (omega arith) in
+      record { read = e; alone = A .0; len = refl; room = omega (arith, A .1, P .long); short = A .1; here = refl; first = P .first; leads = P .leads }
+
+-- nothing is noted but the root
+pub partway-root : (m : List ℕ) (t k : ℕ) (ws : List ℕ) → longestWay ≤ length ws → Alone m t → Partway m t k 0 (set ws 0 t)
+partway-root m t k ws h a =
+    record { long = omega (arith, length-set ws 0 t); first = getD-set-same ws 0 t 0 (omega arith); leads = λ i l. absurd (omega arith); alone = a }
 
 module _ (m : List ℕ) (t k : ℕ) (ws0 ws : List ℕ) (at d : ℕ) (n : Node) (T : Tracing m t k ws0 ws at d n) where
   pub traced : n .height ≡ 0 → Way m t k d ws
@@ -84,3 +108,10 @@ module _ (m : List ℕ) (t k : ℕ) (ws0 ws : List ℕ) (at d : ℕ) (n : Node) 
 
     pub lower : (n′ : Node) → n′ ≡ nodeAt m x → n′ .height < n .height
     lower n′ e = omega (arith, ap (λ (y : Node). y .height) e, ap (λ (y : Node). y .height) (T .read), below .1)
+
+pub partway-head : (m : List ℕ) (t k : ℕ) (ws : List ℕ) → longestWay ≤ length (t ∷ ws) → Alone m t → Partway m t k 0 (t ∷ ws)
+partway-head m t k ws h a = record { long = h; first = refl; leads = λ i l. absurd (omega arith); alone = a }
+
+-- the place reached is the one noted last
+pub tracing-at : {m : List ℕ} {t k : ℕ} {ws0 ws : List ℕ} {at d : ℕ} {n : Node} → Tracing m t k ws0 ws at d n → Tracing m t k ws0 ws (getD ws d 0) d n
+tracing-at T = rw (T .here) T

@@ -27,6 +27,22 @@ pub record Way (m : List ℕ) (t k d : ℕ) (ws : List ℕ) : Type 0 where
   pub leads : (i : ℕ) → i < d → Leads m k (getD ws i 0) (getD ws (suc i) 0)
   pub last : nodeAt m (getD ws d 0) .height ≡ 0
 
+-- the first d + 1 places are the beginning of the key's way from t
+pub record Partway (m : List ℕ) (t k d : ℕ) (ws : List ℕ) : Type 0 where
+  pub long : longestWay ≤ length ws
+  pub first : getD ws 0 0 ≡ t
+  pub leads : (i : ℕ) → i < d → Leads m k (getD ws i 0) (getD ws (suc i) 0)
+  pub alone : Alone m t
+
+abbrev pub Begins : List ℕ → (k d : ℕ) → List ℕ → Type 0
+Begins m k d ws = (t : ℕ) × Partway m t k d ws
+
+abbrev pub Traces : List ℕ → (k d d′ : ℕ) → (ws ws′ : List ℕ) → Type 0
+Traces m k d d′ ws ws′ = (t : ℕ) → Partway m t k d ws → Way m t k d′ ws′
+
+abbrev pub SetsOn : List ℕ → (d k e : ℕ) → (m m′ : List ℕ) → Type 0
+SetsOn ws d k e m m′ = (t : ℕ) → Partway m t k d ws → Sets t k e m m′
+
 -- the first d + 1 places of the list go down from t to the leaf with the least end
 pub record First (m : List ℕ) (t d : ℕ) (ws : List ℕ) : Type 0 where
   pub down : Down m t d ws

@@ -5,12 +5,13 @@ ghost use Prim.Native.Nat.{_+_, _≤_, _<_};
 ghost use lib.ListN.{length};
 ghost use Rattle.shape.specs.Side.{near, far};
 ghost use Rattle.node.specs.Layout.{nodeAt, Mendable};
+ghost use Rattle.node.specs.Paths.{longestWay};
 ghost use Rattle.tree.specs.Turns.{OverOn, Both, Turns, Balances, BalancesOn};
 ghost use Rattle.tree.specs.Changes.{Alone, Ready, Ordered, Sets, Inserts, Removes, RemovesFirst};
-ghost use Rattle.tree.specs.Ways.{Way, First, Settled, Settles, Risen, Rises, Cuttable, Cuts};
+ghost use Rattle.tree.specs.Ways.{Way, Begins, Traces, SetsOn, First, Settled, Settles, Risen, Rises, Cuttable, Cuts};
 
 // The longest way from a root down to a leaf, in places (node's specs/Paths.antt).
-const LONGEST_WAY: usize = 32;
+pub const LONGEST_WAY: usize = 32;
 
 // Of a node's children, the one on the side named, and the other.
 fn near(left: bool, l: u64, r: u64) -> usize
@@ -90,23 +91,30 @@ fn balance_on(mem: &mut [u8], w: usize, x: usize, y: usize, left: bool) -> usize
     }
 }
 
-// The places from the root down to the leaf that the key leads to. How many steps that is.
-fn trace(mem: &[u8], root: usize, key: u64, way: &mut [u16]) -> usize
-    requires { ⌜ nodeAt (now mem) root .height < length (now way) ⌝ }
-    requires { ⌜ Alone (now mem) root ⌝ }
-    ensures { λ d. ⌜ Way (now (mem .entry)) root key d (now (way .exit)) ⌝ }
+// From the place noted last, the places down to the leaf that the key leads to. How many steps below the root that is.
+fn trace_on(mem: &[u8], way: &mut [u16], noted: usize, key: u64) -> usize
+    requires { ⌜ Begins (now mem) key noted (now way) ⌝ }
+    ensures { λ d. ⌜ Traces (now (mem .entry)) key noted d (now (way .entry)) (now (way .exit)) ⌝ }
 {
-    let mut at = root;
-    let mut depth = 0;
-    way[0] = root as u16;
-    let mut n = node::load(mem, at);
+    let mut depth = noted;
+    let mut n = node::load(mem, way[noted] as usize);
     while n.height != 0 {
-        at = near(key < n.split, n.left, n.right);
+        let at = near(key < n.split, n.left, n.right);
         depth += 1;
         way[depth] = at as u16;
         n = node::load(mem, at);
     }
     depth
+}
+
+// The places from the root down to the leaf that the key leads to. How many steps that is.
+fn trace(mem: &[u8], root: usize, key: u64, way: &mut [u16]) -> usize
+    requires { ⌜ longestWay ≤ length (now way) ⌝ }
+    requires { ⌜ Alone (now mem) root ⌝ }
+    ensures { λ d. ⌜ Way (now (mem .entry)) root key d (now (way .exit)) ⌝ }
+{
+    way[0] = root as u16;
+    trace_on(mem, way, 0, key)
 }
 
 // From the root down to the leaf with the least end, of equal ends the one furthest left, noting the way. How many steps that is.
@@ -167,17 +175,26 @@ fn rise(mem: &mut [u8], way: &[u16], from: usize, key: u64, place: usize) -> usi
     x
 }
 
+// Gives the leaf that the key leads to the end `end`, the key's way being noted in part.
+pub fn set_end_on(mem: &mut [u8], way: &mut [u16], noted: usize, key: u64, end: u64)
+    requires { ⌜ Begins (now mem) key noted (now way) ⌝ }
+    ensures { λ _. ⌜ SetsOn (now (way .entry)) noted key end (now (mem .entry)) (now (mem .exit)) ⌝ }
+{
+    let depth = trace_on(mem, way, noted, key);
+    let leaf = way[depth] as usize;
+    let n = node::load(mem, leaf);
+    node::save(mem, leaf, node::leaf(n.lo, end));
+    settle(mem, way, depth);
+}
+
 // Gives the leaf that the key leads to the end `end`.
 pub fn set_end(mem: &mut [u8], t: usize, key: u64, end: u64)
     requires { ⌜ Alone (now mem) t ⌝ }
     ensures { λ _. ⌜ Sets t key end (now (mem .entry)) (now (mem .exit)) ⌝ }
 {
     let mut way = [0u16; LONGEST_WAY];
-    let depth = trace(mem, t, key, &mut way);
-    let leaf = way[depth] as usize;
-    let n = node::load(mem, leaf);
-    node::save(mem, leaf, node::leaf(n.lo, end));
-    settle(mem, &way, depth);
+    way[0] = t as u16;
+    set_end_on(mem, &mut way, 0, key, end);
 }
 
 // Puts a leaf at place p into the tree at t, under a new node at place q. The tree's new place.

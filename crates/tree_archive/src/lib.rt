@@ -3,7 +3,6 @@ ghost use Prim.Native.Nat.{_≤_};
 ghost use Rattle.rule.specs.Moments.{lastMoment};
 ghost use Rattle.node.specs.Layout.{Within, nodeAt};
 ghost use Rattle.tree.specs.Changes.{Alone, Ready, Ordered};
-ghost use Rattle.search.specs.Search.{Searchable};
 
 #[no_mangle]
 pub extern "C" fn tree_plant(mem: &mut [u8], p: usize, key: u64, end: u64)
@@ -43,10 +42,11 @@ pub extern "C" fn tree_set_end(mem: &mut [u8], root: usize, key: u64, end: u64)
 
 #[no_mangle]
 pub extern "C" fn tree_search(mem: &[u8], root: usize, r: u64, f: u64) -> u64
-    requires { ⌜ Searchable (now mem) root ⌝ }
+    requires { ⌜ Alone (now mem) root ⌝ }
     requires { ⌜ r ≤ lastMoment ⌝ }
 {
-    let x = search::search(mem, root, r, f);
+    let mut way = [0u16; tree::LONGEST_WAY];
+    let x = search::search(mem, root, r, f, &mut way);
     x.visits
 }
 

@@ -47,8 +47,8 @@ lone m root used high h t g = record { stands = g .stands; once = g .once; even 
 pub alone : (m : List ℕ) (root used high : ℕ) → high ≤ 30000 → Has m root used high → Alone m root
 alone m root used high h x = (x .0, lone m root used high h (x .0) (x .1))
 
-pub searchable : (m : List ℕ) (root used high : ℕ) → high ≤ 30000 → Has m root used high → Searchable m root
-searchable m root used high h x = (x .0, x .1 .stands, omega (arith, short m root used high h (x .0) (x .1)))
+pub searchable : (m : List ℕ) (root used high : ℕ) (ws : List ℕ) → high ≤ 30000 → 32 ≤ length ws → Has m root used high → Searchable m root ws
+searchable m root used high ws h l x = (x .0, x .1 .stands, short m root used high h (x .0) (x .1), l)
 
 -- ---- a void more, in the places p and p + 1
 fresh : (m : List ℕ) (root p high : ℕ) → high ≤ 30000 → p < 60000 → 40 * p + 288 ≤ length m → (t : Tree) → Grown m root p high t → Fresh m root p (p + 1) t

@@ -59,14 +59,15 @@ fn grow(mem: &mut [u8]) -> usize
 }
 
 // Searches for ROUNDS bursts. The digest of the answers.
-fn look(mem: &[u8], root: usize) -> u64
+fn look(mem: &[u8], root: usize, way: &mut [u16]) -> u64
     requires { ⌜ Has (now mem) root 4000 12000 ⌝ }
+    requires { ⌜ 32 ≤ length (now way) ⌝ }
 {
     let mut digest = 0;
     let mut i = 0;
     while i < ROUNDS {
         let r = moment(i * 3 + 1);
-        let x = search::search(mem, root, r, r + i % 900);
+        let x = search::search(mem, root, r, r + i % 900, way);
         digest = mix(mix(digest, x.visits), x.key);
         i += 1;
     }
@@ -112,9 +113,10 @@ fn say(v: u64) {
 // A digest of the searches before the exchanges, one of those after, and the least end at last.
 fn main() {
     let mut mem = [0u8; 160208];
+    let mut way = [0u16; tree::LONGEST_WAY];
     let root = grow(&mut mem);
-    say(look(&mem, root));
+    say(look(&mem, root, &mut way));
     let after = exchange(&mut mem, root);
-    say(look(&mem, after));
+    say(look(&mem, after, &mut way));
     say(node::load(&mem, after).low);
 }

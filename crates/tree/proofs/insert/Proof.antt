@@ -2,7 +2,7 @@ use borrow.Author.Needs.{needs}
 use native.Mathlib.Omega.{arith}
 use Rattle.tree.specs.Ways.{adding}
 use Rattle.tree.proofs.Sides.{leaf-fits, saved-as}
-use Rattle.tree.proofs.Starting.{short-alone, alone-ready, beside-in, beside-mendable, adding-start}
+use Rattle.tree.proofs.Starting.{alone-ready, beside-in, beside-mendable, adding-start}
 use Rattle.tree.proofs.insert.Statement.{statement}
 use Rattle.tree.proofs.insert.Tie as tie
 
@@ -10,7 +10,7 @@ slice-aggregate-trace : tie.Need-slice-aggregate-trace
 slice-aggregate-trace c = search needs
 
 trace-requires : tie.Need-trace-requires
-trace-requires c κs = let a = alone-ready _ _ _ _ (c .before .before .before .pre) in (short-alone _ _ a, a)
+trace-requires c κs = let a = alone-ready _ _ _ _ (c .before .before .before .pre) in (omega arith, a)
 
 mul-beside : tie.Need-mul-beside
 mul-beside c = search needs

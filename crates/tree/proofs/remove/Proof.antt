@@ -1,5 +1,5 @@
 use borrow.Author.Needs.{needs}
-use Rattle.tree.proofs.Starting.{short-alone}
+use native.Mathlib.Omega.{arith}
 use Rattle.tree.proofs.remove.Statement.{statement}
 use Rattle.tree.proofs.remove.Tie as tie
 
@@ -7,7 +7,7 @@ slice-aggregate-trace : tie.Need-slice-aggregate-trace
 slice-aggregate-trace c = search needs
 
 trace-requires : tie.Need-trace-requires
-trace-requires c κs = (short-alone _ _ (c .before .before .before .pre .1), c .before .before .before .pre .1)
+trace-requires c κs = (omega arith, c .before .before .before .pre .1)
 
 slice-aggregate-take-out : tie.Need-slice-aggregate-take-out
 slice-aggregate-take-out c = search needs

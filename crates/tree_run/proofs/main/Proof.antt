@@ -15,8 +15,11 @@ grow-requires c κs = search needs
 slice-aggregate-look : tie.Need-slice-aggregate-look
 slice-aggregate-look c = search needs
 
+slice-aggregate-look-2 : tie.Need-slice-aggregate-look-2
+slice-aggregate-look-2 c = search needs
+
 look-requires : tie.Need-look-requires
-look-requires c κs = higher _ _ _ _ _ _ (omega arith) (omega arith) (c .before .before .grow .ensures)
+look-requires c κs = (higher _ _ _ _ _ _ (omega arith) (omega arith) (c .before .before .before .grow .ensures), omega arith)
 
 say-requires : tie.Need-say-requires
 say-requires c κs = search needs
@@ -27,8 +30,11 @@ slice-aggregate-exchange c = search needs
 exchange-requires : tie.Need-exchange-requires
 exchange-requires c κs = search needs
 
-slice-aggregate-look-2 : tie.Need-slice-aggregate-look-2
-slice-aggregate-look-2 c = search needs
+slice-aggregate-look-3 : tie.Need-slice-aggregate-look-3
+slice-aggregate-look-3 c = search needs
+
+slice-aggregate-look-4 : tie.Need-slice-aggregate-look-4
+slice-aggregate-look-4 c = search needs
 
 look-requires-2 : tie.Need-look-requires-2
 look-requires-2 c κs = search needs
@@ -40,7 +46,7 @@ slice-aggregate-load : tie.Need-slice-aggregate-load
 slice-aggregate-load c = search needs
 
 load-requires : tie.Need-load-requires
-load-requires c κs = within (c .before .before .before .before .before .exchange .ensures .1 .stands)
+load-requires c κs = within (c .before .before .before .before .before .before .before .exchange .ensures .1 .stands)
 
 say-requires-3 : tie.Need-say-requires-3
 say-requires-3 c κs = search needs
@@ -55,11 +61,13 @@ main-spec =
     slice-aggregate-grow
     grow-requires
     slice-aggregate-look
+    slice-aggregate-look-2
     look-requires
     say-requires
     slice-aggregate-exchange
     exchange-requires
-    slice-aggregate-look-2
+    slice-aggregate-look-3
+    slice-aggregate-look-4
     look-requires-2
     say-requires-2
     slice-aggregate-load
