@@ -29,9 +29,10 @@ use Rattle.search.specs.Search.{Searchable, Notes, foundOf, found-visits, found
 use Rattle.state.specs.State.{State}
 use Rattle.state.specs.Act.{Seeking, tryNext, seek}
 use Rattle.memory.specs.Holds.{Holds, Whole}
+use Rattle.memory.specs.Steps.{Pointed}
 use Rattle.memory.proofs.Parts.{padded-at}
 use Rattle.memory.proofs.Whole.{root-stands}
-use Rattle.booking.specs.Book.{takenOf, Pointed}
+use Rattle.booking.specs.Book.{takenOf}
 
 -- a search that n visits went before
 abbrev pub after : ℕ → Seeking → Seeking

@@ -18,10 +18,10 @@ use Rattle.state.specs.Sound.{mostKey}
 use Rattle.state.specs.KeptLaws.{case-kept}
 use Rattle.state.specs.PlaceLaws.{placed-shorten, placed-add}
 use Rattle.memory.specs.Holds.{Holds, After}
-use Rattle.memory.specs.Steps.{Link, Noted, Roomy, Several, Shortens, Adds, Drops}
+use Rattle.memory.specs.Steps.{Link, Pointed, Noted, Roomy, Several, Shortens, Adds, Drops}
 use Rattle.shape.specs.SizeLaws.{size-set, size-insert}
 use Rattle.memory.proofs.Whole.{whole-link, floor-is, after-none, after-then}
-use Rattle.booking.specs.Book.{Splitting, Pointed, overfull}
+use Rattle.booking.specs.Book.{Splitting, overfull}
 
 -- what a test of a piece says of the state
 pub piece : {m : List ℕ} {s : State} → Holds m s → (x : ℕ) → x ≡ word m 4 → (y a z : ℕ) → y ≡ a → (b v : Bool) → b ≡ kept x y z → b ≡ v → kept (s .floor) a z ≡ v
@@ -52,7 +52,7 @@ module _ (m : List ℕ) (k e r f : ℕ) (s : State) (S : Splitting s k e r f) (H
   link = whole-link (S .sound) H
 
   pub noted-pre : (ws : List ℕ) (d : ℕ) → Pointed m ws d k e → Noted ws d k m
-  noted-pre ws d P = (s, record { link = link; ordered = S .sound .ordered; long = P .long; place = P .place; end = e; reaches = P .reaches })
+  noted-pre ws d P = (s, record { link = link; ordered = S .sound .ordered; end = e; pointed = P })
 
   -- the key of the piece behind, as the code makes it
   abbrev pub Next : ℕ → Type 0

@@ -2,7 +2,7 @@
 use mathlib.Core.Path.{_≡_}
 use mathlib.Core.List.{List}
 use mathlib.Core.Bool.{Bool, true, false}
-use Prim.Native.Nat.{ℕ, _≤_}
+use Prim.Native.Nat.{ℕ}
 use Rattle.rule.specs.Key.{startOf}
 use Rattle.shape.specs.Tree.{size, In}
 use Rattle.rule.specs.Order.{booking}
@@ -10,14 +10,12 @@ use Rattle.rule.specs.Starts.{starts}
 use Rattle.rule.specs.Codes.{tooMany}
 use Rattle.rule.specs.Answer.{seven, numbersOf}
 use Rattle.rule.specs.declared.answer.Answer.{Answer}
-use lib.ListN.{length}
-use Rattle.numbers.specs.Words.{word}
-use Rattle.node.specs.Paths.{longestWay, Reaches}
 use Rattle.state.specs.State.{State}
 use Rattle.state.specs.Act.{Sought, nowhere, found, Seeking, seek, split, act}
 use Rattle.state.specs.Room.{Room}
 use Rattle.state.specs.Sound.{Sound}
 use Rattle.memory.specs.Holds.{Holds, After}
+use Rattle.memory.specs.Steps.{Pointed}
 use Rattle.booking.specs.declared.Taken.{Taken}
 
 -- the code's struct for what the search over the starts came to: zeros where nothing fits
@@ -31,13 +29,7 @@ takenOf d y = takenAt d (y .count) (y .out)
 abbrev pub Seeks : (r h m : ℕ) → Taken → List ℕ → Type 0
 Seeks r h m x mem = (s : State) → Holds mem s → x ≡ takenOf (x .noted) (seek (s .tree) h (starts (s .settings .delays) r h m))
 
--- a way is noted from the root, down to a tree that has a leaf of the key and the end
-pub record Pointed (m ws : List ℕ) (d k e : ℕ) : Type 0 where
-  pub long : longestWay ≤ length ws
-  pub place : ℕ
-  pub reaches : Reaches m (word m 5) d ws place k e
-
--- what was taken is there
+-- what was taken is where the way noted leads
 abbrev pub Points : (m ws : List ℕ) → Taken → Type 0
 Points m ws x = x .found ≡ true → Pointed m ws (x .noted) (x .key) (x .end)
 

@@ -9,7 +9,8 @@ ghost use lib.ListN.{length};
 ghost use Rattle.state.specs.State.{State};
 ghost use Rattle.state.specs.Sound.{Sound};
 ghost use Rattle.memory.specs.Holds.{Holds, Whole};
-ghost use Rattle.booking.specs.Book.{Seeks, Points, Pointed, Splits, Splittable, overfull, Books};
+ghost use Rattle.memory.specs.Steps.{Pointed};
+ghost use Rattle.booking.specs.Book.{Seeks, Points, Splits, Splittable, overfull, Books};
 use numbers::words::get;
 use rule::answer::Answer;
 

@@ -57,8 +57,9 @@ module _ (m : List ℕ) (s : State) (L : Link m s) where
   -- the way noted is the beginning of the key's
   pub partway : (ws : List ℕ) (d k : ℕ) → Noting m s ws d k → Partway m (word m 5) k d ws
   partway ws d k N =
-      let r = N .reaches in
-      path-partway m (word m 5) d ws (r .down) (r .sub) (N .place) k (N .end) (r .stands) (r .inside) (N .long) (s .tree) 0 mostKey (sole (word m 5) refl) (N .ordered)
+      let P = N .pointed in
+      let r = P .reaches in
+      path-partway m (word m 5) d ws (r .down) (r .sub) (P .place) k (N .end) (r .stands) (r .inside) (P .long) (s .tree) 0 mostKey (sole (word m 5) refl) (N .ordered)
 
   pub refloored : (m′ : List ℕ) (moment : ℕ) → moment < 2 ^ 64 → m′ ≡ store m 4 moment → After m m′ (with-floor s moment)
   refloored m′ moment l e =

@@ -24,14 +24,18 @@ pub record Link (m : List ℕ) (s : State) : Type 0 where
 abbrev pub Some : List ℕ → Type 0
 Some m = (s : State) × Link m s
 
--- one with rising keys, and a way noted from its root down to a tree that has a leaf of the key
+-- a way is noted from the root, down to a tree that has a leaf of the key and the end
+pub record Pointed (m ws : List ℕ) (d k e : ℕ) : Type 0 where
+  pub long : longestWay ≤ length ws
+  pub place : ℕ
+  pub reaches : Reaches m (word m 5) d ws place k e
+
+-- of a link with rising keys
 pub record Noting (m : List ℕ) (s : State) (ws : List ℕ) (d k : ℕ) : Type 0 where
   pub link : Link m s
   pub ordered : Ord 0 mostKey (s .tree)
-  pub long : longestWay ≤ length ws
-  pub place : ℕ
   pub end : ℕ
-  pub reaches : Reaches m (word m 5) d ws place k end
+  pub pointed : Pointed m ws d k end
 
 abbrev pub Noted : List ℕ → (d k : ℕ) → List ℕ → Type 0
 Noted ws d k m = (s : State) × Noting m s ws d k
@@ -58,8 +62,8 @@ pub record Removal (c : Cut) (m0 : List ℕ) (s : State) (k : ℕ) (m : List ℕ
   pub two : 2 ≤ size (s .tree)
   pub cut : Shrunk c k (s .tree) m0 m
 
-abbrev pub Taken : Cut → List ℕ → Type 0
-Taken c m = (m0 : List ℕ) × (s : State) × (k : ℕ) × Removal c m0 s k m
+abbrev pub CutOut : Cut → List ℕ → Type 0
+CutOut c m = (m0 : List ℕ) × (s : State) × (k : ℕ) × Removal c m0 s k m
 
 abbrev pub GivesBack : Cut → (m m′ : List ℕ) → Type 0
 GivesBack c m m′ = (m0 : List ℕ) (s : State) (k : ℕ) → Removal c m0 s k m → After m0 m′ (drop s k)
@@ -74,12 +78,12 @@ abbrev pub Clearable : (bound : ℕ) → List ℕ → Type 0
 Clearable bound m = (s : State) × Lined bound m s
 
 -- the void that ends first goes if it ends before the bound
-pub record First (bound : ℕ) (b : Bool) (m m′ : List ℕ) (s : State) : Type 0 where
+pub record FirstDropped (bound : ℕ) (b : Bool) (m m′ : List ℕ) (s : State) : Type 0 where
   pub gone : b ≡ true → (low (s .tree) < bound) × After m m′ (dropLeast s)
   pub none : b ≡ false → (bound ≤ low (s .tree)) × (m′ ≡ m)
 
 abbrev pub DropsFirst : (bound : ℕ) → Bool → (m m′ : List ℕ) → Type 0
-DropsFirst bound b m m′ = (s : State) → Lined bound m s → First bound b m m′ s
+DropsFirst bound b m m′ = (s : State) → Lined bound m s → FirstDropped bound b m m′ s
 
 abbrev pub Refloors : (moment : ℕ) → (m m′ : List ℕ) → Type 0
 Refloors moment m m′ = (s : State) → Link m s → After m m′ (with-floor s moment)

@@ -7,7 +7,7 @@ ghost use Rattle.rule.specs.Settings.{mostRoom};
 ghost use Rattle.node.specs.Layout.{Within, nodeAt, Saved};
 ghost use Rattle.memory.specs.Header.{need};
 ghost use Rattle.memory.specs.Holds.{spareNode};
-ghost use Rattle.memory.specs.Steps.{Some, Noted, Roomy, Several, Clearable, Taken, GivesBack, Shortens, Adds, Drops, DropsFirst, Refloors};
+ghost use Rattle.memory.specs.Steps.{Some, Noted, Roomy, Several, Clearable, CutOut, GivesBack, Shortens, Adds, Drops, DropsFirst, Refloors};
 use numbers::words::get;
 use numbers::words::put;
 use tree::Cut;
@@ -91,7 +91,7 @@ pub fn add(mem: &mut [u8], key: u64, end: u64)
 
 // After a removal: its two places are spare again, the root is where it says, and one void less is kept.
 fn give_back(mem: &mut [u8], cut: Cut)
-    requires { ⌜ Taken cut (now mem) ⌝ }
+    requires { ⌜ CutOut cut (now mem) ⌝ }
     ensures { λ _. ⌜ GivesBack cut (now (mem .entry)) (now (mem .exit)) ⌝ }
 {
     let kept = get(mem, KEPT);

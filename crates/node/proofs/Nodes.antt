@@ -1,20 +1,17 @@
 -- The laws of a node saved: it is there, and nothing else has changed.
 -- And what makes a node over two others fit its words.
-use mathlib.Core.Path.{_≡_, _∙_}
+use mathlib.Core.Path.{_≡_, refl, ap, _∙_}
 use mathlib.Core.Logic.{_⊎_, inl, inr, _≢_}
-use mathlib.Core.Bool.{false}
 use mathlib.Core.List.{List}
 use Prim.Native.Nat.{ℕ, _+_, _*_, _-_, _/_, _%_, _^_, _<_, _≤_}
 use native.Mathlib.Decide.{decLt}
 use native.Mathlib.Omega.{arith}
-use lib.Dec.{eqb}
-use borrow.Author.Tests.{eqb-false}
 use lib.ListN.{length, getD}
-use Rattle.numbers.specs.Words.{store}
+use Rattle.numbers.specs.Words.{word, store}
 use Rattle.numbers.proofs.WordLaws.{word-other, word-same, byte-other, length-store}
 use Rattle.shape.specs.Tree.{same}
 use Rattle.node.specs.declared.Node.{Node}
-use Rattle.node.specs.Layout.{base, Within, Fits, nodeAt, saved, linksOf, overNode, placeOf, Saved, Over}
+use Rattle.node.specs.Layout.{base, Within, Fits, nodeAt, sumsSaved, saved, linksOf, overNode, withSums, placeOf, Saved, Over}
 use Rattle.shape.specs.PlaceLaws.{same-none}
 
 -- a node's fields are words
@@ -24,51 +21,116 @@ pub record Words (n : Node) : Type 0 where
   pub top : n .top < 2 ^ 64
   pub low : n .low < 2 ^ 64
 
-ne : (b i j : ℕ) → eqb i j ≡ false → b + i ≢ b + j
-ne b i j h = λ e. eqb-false i j h (omega arith)
+-- a byte that is not the node's is outside its five words
+off : (p b : ℕ) → (b < 208) ⊎ (same (placeOf b) p ≡ 0) → (b < 8 * base p) ⊎ (8 * base p + 40 ≤ b)
+off p b (inl h) = inl (omega arith)
+off p b (inr h) =
+    let u : placeOf b ≢ p = same-none (placeOf b) p h in
+    elim (decLt b (8 * base p)) [ yes l ↦ inl l | no l ↦ inr (omega arith) ]
 
-ne-up : (b j : ℕ) → eqb 0 j ≡ false → b ≢ b + j
-ne-up b j h = λ e. eqb-false 0 j h (omega arith)
+-- ---- the four words of the sums
+byte-sums : (m : List ℕ) (p : ℕ) (n : Node) (b : ℕ) → (b < 8 * base p) ⊎ (8 * base p + 40 ≤ b) → getD (sumsSaved m p n) b 0 ≡ getD m b 0
+unfolding sumsSaved
+byte-sums m p n b (inl h) =
+    byte-other _ _ _ b (inl (omega arith)) ∙ (byte-other _ _ _ b (inl (omega arith)) ∙ (byte-other _ _ _ b (inl (omega arith)) ∙ byte-other _ _ _ b (inl h)))
+byte-sums m p n b (inr h) =
+    byte-other _ _ _ b (inr (omega arith)) ∙ (byte-other _ _ _ b (inr (omega arith)) ∙ (byte-other _ _ _ b (inr (omega arith)) ∙ byte-other _ _ _ b (inr (omega arith))))
 
-fits-store : (m : List ℕ) (i v j : ℕ) → 8 * j + 8 ≤ length m → 8 * j + 8 ≤ length (store m i v)
-fits-store m i v j h = omega (arith, length-store m i v)
+module _ (m : List ℕ) (p : ℕ) (n : Node) (i : Within m p) (w : Words n) where
+  abbrev m1 : List ℕ
+  m1 = store m (base p) (n .lo)
 
--- a byte outside the node's five words
-byte-saved : (m : List ℕ) (p : ℕ) (n : Node) (b : ℕ) → (b < 8 * base p) ⊎ (8 * base p + 40 ≤ b) → getD (saved m p n) b 0 ≡ getD m b 0
-unfolding saved
-byte-saved m p n b (inl h) =
-    byte-other _ _ _ b (inl (omega arith)) ∙ (byte-other _ _ _ b (inl (omega arith)) ∙ (byte-other _ _ _ b (inl (omega arith)) ∙ (byte-other _ _ _ b (inl (omega arith)) ∙ byte-other _ _ _ b (inl h))))
-byte-saved m p n b (inr h) =
-    byte-other _ _ _ b (inr (omega arith)) ∙ (byte-other _ _ _ b (inr (omega arith)) ∙ (byte-other _ _ _ b (inr (omega arith)) ∙ (byte-other _ _ _ b (inr (omega arith)) ∙ byte-other _ _ _ b (inr (omega arith)))))
+  abbrev m2 : List ℕ
+  m2 = store m1 (base p + 1) (n .split)
 
-module _ (m : List ℕ) (p : ℕ) (n : Node) where
-  node-saved : Within m p → Fits n → Words n → nodeAt (saved m p n) p ≡ n
+  abbrev m3 : List ℕ
+  m3 = store m2 (base p + 2) (n .top)
+
+  abbrev m4 : List ℕ
+  m4 = store m3 (base p + 3) (n .low)
+
+  l1 : length m1 ≡ length m
+  l1 = length-store m (base p) (n .lo)
+
+  l2 : length m2 ≡ length m
+  l2 = length-store m1 (base p + 1) (n .split) ∙ l1
+
+  l3 : length m3 ≡ length m
+  l3 = length-store m2 (base p + 2) (n .top) ∙ l2
+
+  w0 : word m4 (base p) ≡ n .lo
+  w0 = word-other m3 _ _ _ (omega arith) ∙ (word-other m2 _ _ _ (omega arith) ∙ (word-other m1 _ _ _ (omega arith) ∙ word-same m (base p) (n .lo) (omega arith) (w .lo)))
+
+  w1 : word m4 (base p + 1) ≡ n .split
+  w1 = word-other m3 _ _ _ (omega arith) ∙ (word-other m2 _ _ _ (omega arith) ∙ word-same m1 (base p + 1) (n .split) (omega (arith, l1)) (w .split))
+
+  w2 : word m4 (base p + 2) ≡ n .top
+  w2 = word-other m3 _ _ _ (omega arith) ∙ word-same m2 (base p + 2) (n .top) (omega (arith, l2)) (w .top)
+
+  w3 : word m4 (base p + 3) ≡ n .low
+  w3 = word-same m3 (base p + 3) (n .low) (omega (arith, l3)) (w .low)
+
+  w4 : word m4 (base p + 4) ≡ word m (base p + 4)
+  w4 = word-other m3 _ _ _ (omega arith) ∙ (word-other m2 _ _ _ (omega arith) ∙ (word-other m1 _ _ _ (omega arith) ∙ word-other m _ _ _ (omega arith)))
+
+  node-sums : nodeAt (sumsSaved m p n) p ≡ withSums n (nodeAt m p)
+  unfolding sumsSaved nodeAt
+  node-sums = rw (w4, w0, w1, w2, w3) refl
+
+length-sums : (m : List ℕ) (p : ℕ) (n : Node) → length (sumsSaved m p n) ≡ length m
+unfolding sumsSaved
+length-sums m p n = simp length-store
+
+pub sums-written : (m : List ℕ) (p : ℕ) (n : Node) → Within m p → Words n → Saved p (withSums n (nodeAt m p)) m (sumsSaved m p n)
+sums-written m p n i w =
+    record { at = node-sums m p n i w; kept = record { len = length-sums m p n; byte = λ b h. byte-sums m p n b (off p b h) } }
+
+-- ---- and the fifth: height and places
+module _ (m : List ℕ) (p : ℕ) (n : Node) (i : Within m p) (f : Fits n) (w : Words n) where
+  abbrev M : List ℕ
+  M = sumsSaved m p n
+
+  sum : {A : Type 0} (g : Node → A) → g (nodeAt M p) ≡ g (withSums n (nodeAt m p))
+  sum g = ap g (node-sums m p n i w)
+
+  links : word (store M (base p + 4) (linksOf n)) (base p + 4) ≡ linksOf n
+  links = word-same M (base p + 4) (linksOf n) (omega (arith, length-sums m p n)) (omega arith)
+
+  node-saved : nodeAt (saved m p n) p ≡ n
   unfolding saved nodeAt
-  node-saved i f w =
-      let h0 : 8 * base p + 8 ≤ length m = omega arith in
-      let h1 : 8 * (base p + 1) + 8 ≤ length m = omega arith in
-      let h2 : 8 * (base p + 2) + 8 ≤ length m = omega arith in
-      let h3 : 8 * (base p + 3) + 8 ≤ length m = omega arith in
-      let h4 : 8 * (base p + 4) + 8 ≤ length m = omega arith in
-      let v : linksOf n < 2 ^ 64 = omega arith in
+  node-saved =
+      let o : (j : ℕ) → j ≢ base p + 4 → word (store M (base p + 4) (linksOf n)) j ≡ word M j = λ j h. word-other M (base p + 4) (linksOf n) j h in
       let a : linksOf n / 4294967296 ≡ n .height = omega arith in
       let b : linksOf n / 65536 % 65536 ≡ n .left = omega arith in
       let c : linksOf n % 65536 ≡ n .right = omega arith in
-      search (word-other, word-same, fits-store, ne, ne-up, a, b, c) depth 10
+      rw (
+        links,
+        o (base p) (omega arith),
+        o (base p + 1) (omega arith),
+        o (base p + 2) (omega arith),
+        o (base p + 3) (omega arith),
+        sum (λ (z : Node). z .lo),
+        sum (λ (z : Node). z .split),
+        sum (λ (z : Node). z .top),
+        sum (λ (z : Node). z .low),
+        a,
+        b,
+        c,
+      ) refl
 
-  length-saved : length (saved m p n) ≡ length m
+  byte-saved : (b : ℕ) → (b < 8 * base p) ⊎ (8 * base p + 40 ≤ b) → getD (saved m p n) b 0 ≡ getD m b 0
   unfolding saved
-  length-saved = simp length-store
+  byte-saved b (inl h) = byte-other M (base p + 4) (linksOf n) b (inl (omega arith)) ∙ byte-sums m p n b (inl h)
+  byte-saved b (inr h) = byte-other M (base p + 4) (linksOf n) b (inr (omega arith)) ∙ byte-sums m p n b (inr h)
 
-  pub off : (b : ℕ) → (b < 208) ⊎ (same (placeOf b) p ≡ 0) → (b < 8 * base p) ⊎ (8 * base p + 40 ≤ b)
-  off b (inl h) = inl (omega arith)
-  off b (inr h) =
-      let u : placeOf b ≢ p = same-none (placeOf b) p h in
-      elim (decLt b (8 * base p)) [ yes l ↦ inl l | no l ↦ inr (omega arith) ]
+  saved-saved : Saved p n m (saved m p n)
+  unfolding saved
+  saved-saved =
+      record { at = node-saved; kept = record { len = length-store M (base p + 4) (linksOf n) ∙ length-sums m p n; byte = λ b h. byte-saved b (off p b h) } }
 
-  pub saved-saved : Within m p → Fits n → Words n → Saved p n m (saved m p n)
-  saved-saved i f w =
-      record { at = node-saved i f w; kept = record { len = length-saved; byte = λ b h. byte-saved m p n b (off b h) } }
+pub saved-of : (m m1 m2 : List ℕ) (p : ℕ) (n : Node) → m1 ≡ sumsSaved m p n → m2 ≡ store m1 (base p + 4) (linksOf n) → Within m p → Fits n → Words n → Saved p n m m2
+unfolding saved
+saved-of m m1 m2 p n e1 e2 i f w = rw (e2, e1) (saved-saved m p n i f w)
 
 -- ---- a node over two others
 pub mended : (m m′ : List ℕ) (p l r : ℕ) (x y n : Node) → x ≡ nodeAt m l → y ≡ nodeAt m r → n ≡ overNode x y l r → Saved p n m m′ → Over p l r m m′

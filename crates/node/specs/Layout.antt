@@ -2,7 +2,7 @@
 -- The numbers of the layout are here and in docs/ARCHITECTURE.md only.
 use mathlib.Core.Path.{_≡_}
 use mathlib.Core.Logic.{_⊎_}
-use mathlib.Core.Bool.{Bool, false}
+use mathlib.Core.Bool.{Bool, true, false}
 use mathlib.Core.List.{List}
 use Prim.Native.Nat.{ℕ, _+_, _*_, _-_, _/_, _%_, _≤_, _<_, min, max}
 use lib.ListN.{length, getD}
@@ -49,10 +49,12 @@ linksOf n = n .height * 4294967296 + n .left * 65536 + n .right
 abbrev pub Fits : Node → Type 0
 Fits n = (n .height < 4294967296) × (n .left < 65536) × (n .right < 65536)
 
--- the memory with n at place p
+-- the memory with the sums of n at place p: four words; and with n there, height and places too
+unfoldable pub sumsSaved : List ℕ → ℕ → Node → List ℕ
+sumsSaved m p n = store (store (store (store m (base p) (n .lo)) (base p + 1) (n .split)) (base p + 2) (n .top)) (base p + 3) (n .low)
+
 unfoldable pub saved : List ℕ → ℕ → Node → List ℕ
-saved m p n =
-    store (store (store (store (store m (base p) (n .lo)) (base p + 1) (n .split)) (base p + 2) (n .top)) (base p + 3) (n .low)) (base p + 4) (linksOf n)
+saved m p n = store (sumsSaved m p n) (base p + 4) (linksOf n)
 
 -- a leaf's node
 abbrev pub leafNode : (key end : ℕ) → Node
@@ -71,17 +73,13 @@ overNode x y l r =
       right = r;
     }
 
--- the node n over the two others, its sums taken anew: height and places are as they were
-abbrev pub summedNode : (n x y : Node) → Node
-summedNode n x y =
-    record { height = n .height; lo = x .lo; split = y .lo; top = max (x .top) (y .top); low = min (x .low) (y .low); left = n .left; right = n .right }
-
--- the node k with the sums of n: what is written where height and places stay
+-- the node k with the sums of n: height and places are as they were
 abbrev pub withSums : (n k : Node) → Node
 withSums n k = record { height = k .height; lo = n .lo; split = n .split; top = n .top; low = n .low; left = k .left; right = k .right }
 
-unfoldable pub sumsSaved : List ℕ → ℕ → Node → List ℕ
-sumsSaved m p n = store (store (store (store m (base p) (n .lo)) (base p + 1) (n .split)) (base p + 2) (n .top)) (base p + 3) (n .low)
+-- the node n with the sums of the two others, taken anew
+abbrev pub summedNode : (n x y : Node) → Node
+summedNode n x y = withSums (overNode x y 0 0) n
 
 -- two nodes say the same of what is below them
 abbrev pub SameSums : (x y : Node) → Type 0
@@ -126,7 +124,8 @@ pub record Summable (m : List ℕ) (p : ℕ) : Type 0 where
 abbrev pub Summed : (p : ℕ) → (m m′ : List ℕ) → Type 0
 Summed p m m′ = Saved p (summedNode (nodeAt m p) (nodeAt m (nodeAt m p .left)) (nodeAt m (nodeAt m p .right))) m m′
 
--- and b is false only where that changed nothing
+-- and b is false exactly where that changed nothing: then no byte was written
 pub record Sums (p : ℕ) (b : Bool) (m m′ : List ℕ) : Type 0 where
   pub summed : Summed p m m′
-  pub still : b ≡ false → nodeAt m′ p ≡ nodeAt m p
+  pub still : b ≡ false → m′ ≡ m
+  pub moved : b ≡ true → nodeAt m′ p ≡ nodeAt m p → ⊥

@@ -21,7 +21,7 @@ use Rattle.state.specs.Act.{act}
 use Rattle.state.specs.OpenLaws.{fresh-settings}
 use Rattle.memory.specs.Header.{need}
 use Rattle.memory.proofs.Parts.{past-none}
-use Rattle.memory.specs.Holds.{Holds, Past, After}
+use Rattle.memory.specs.Holds.{Whole, Past, After}
 use Rattle.opening.proofs.Same.{broken, small, fine, answer}
 use Rattle.opening.proofs.Same
 use Rattle.calls.specs.declared.open.Opened.{Opened}
@@ -76,7 +76,7 @@ rowIf (sweep moment) = 1
 pub record ActDoor (t : Tally) (bytes : List ℕ) (d : Done) (m m′ : List ℕ) : Type 0 where
   pub code : (d .acted .answer .code ≡ 0) ⊎ ((2 ≤ d .acted .answer .code) × (d .acted .answer .code ≤ 11))
   -- "2: the lent memory is not a whole link"
-  pub whole : (d .acted .answer .code ≡ 2) ↔ (¬ ((s : State) × Sound s × Holds m s))
+  pub whole : (d .acted .answer .code ≡ 2) ↔ (¬ (Whole m))
   -- "Every code but 0 leaves link memory as it stood before that record, byte for byte."
   pub refused : d .acted .answer .code ≢ 0 → m′ ≡ m
   -- "A refusal has 0 in all but code and count"
@@ -84,8 +84,9 @@ pub record ActDoor (t : Tally) (bytes : List ℕ) (d : Done) (m m′ : List ℕ)
   pub used : d .acted .used ≤ length bytes
   -- "Bytes used are .. 0 under 1, 2 and 11"; "Codes 1, 2, 11 and 12 raise none."
   pub unread : (d .acted .answer .code ≡ 2) ⊎ (d .acted .answer .code ≡ 11) → (d .acted .used ≡ 0) × (d .tally ≡ t)
-  -- "An order acted on raises exactly one count": under every other code an order was read, and the row of its answer is raised
-  pub tally : d .acted .answer .code ≢ 2 → d .acted .answer .code ≢ 11 → (n : ℕ) × (o : Order) × (reading bytes ≡ order n o) × (d .tally ≡ raised t (rowAt (d .acted .answer .code) (rowIf o)))
+  -- "Bytes used are the record's length"; "An order acted on raises exactly one count": under every other code an order was read, its length
+  -- is what was used, and the row of its answer is raised
+  pub tally : d .acted .answer .code ≢ 2 → d .acted .answer .code ≢ 11 → (n : ℕ) × (o : Order) × (reading bytes ≡ order n o) × (d .acted .used ≡ n) × (d .tally ≡ raised t (rowAt (d .acted .answer .code) (rowIf o)))
   pub past : Past (need (word m 0)) m m′
 
 -- what a step on a sound link says
@@ -94,7 +95,7 @@ record StepDoor (t : Tally) (bytes : List ℕ) (x : Stepped) : Type 0 where
   numbers : getD (x .numbers) 0 0 ≢ 0 → x .numbers ≡ getD (x .numbers) 0 0 ∷ 0 ∷ 0 ∷ 0 ∷ 0 ∷ getD (x .numbers) 5 0 ∷ 0 ∷ []
   used : x .used ≤ length bytes
   unread : getD (x .numbers) 0 0 ≡ 11 → (x .used ≡ 0) × (x .tally ≡ t)
-  tally : getD (x .numbers) 0 0 ≢ 11 → (n : ℕ) × (o : Order) × (reading bytes ≡ order n o) × (x .tally ≡ raised t (rowAt (getD (x .numbers) 0 0) (rowIf o)))
+  tally : getD (x .numbers) 0 0 ≢ 11 → (n : ℕ) × (o : Order) × (reading bytes ≡ order n o) × (x .used ≡ n) × (x .tally ≡ raised t (rowAt (getD (x .numbers) 0 0) (rowIf o)))
 
 -- the row that a reply raises, by its code
 row-at : (o : Order) (y : Reply) (n : ℕ) → Apt o y → rowOf y ≡ rowAt (getD (seven y n) 0 0) (rowIf o)
@@ -122,7 +123,7 @@ step-door s t bytes = go (reading bytes) refl (reading-fair bytes)
           numbers = rw e (zeros y ((act s o) .count));
           used = f .1;
           unread = rw e (λ k. absurd (never o′ y (rw e at a) k));
-          tally = λ k. (n, o, q, ap (raised t) (row-at o ((act s o) .reply) ((act s o) .count) (act-apt s o)));
+          tally = λ k. (n, o, q, refl, ap (raised t) (row-at o ((act s o) .reply) ((act s o) .count) (act-apt s o)));
         }
           where
             codes : (o′ : Order) (y : Reply) → Apt o′ y → let k = getD (seven y ((act s o) .count)) 0 0 in (k ≡ 0) ⊎ ((3 ≤ k) × (k ≤ 11))
@@ -157,7 +158,7 @@ act-door t bytes m m′ d h x y (inl (s, W, H, A)) =
       numbers = λ k. A .numbers ∙ D .numbers (λ z. k (c ∙ z)) ∙ rw (c, n);
       used = rw (A .used) (D .used);
       unread = λ k. rw (A .used, A .tally) (elim k [ inl j ↦ absurd (elim (D .code) [ inl i ↦ omega (arith, c, i, j) | inr i ↦ omega (arith, c, i, j) ]) | inr j ↦ D .unread (sym c ∙ j) ]);
-      tally = λ k j. let z = D .tally (λ i. j (c ∙ i)) in (z .0, z .1, z .2, A .tally ∙ z .3 ∙ ap (λ i. raised t (rowAt i (rowIf (z .1)))) (sym c));
+      tally = λ k j. let z = D .tally (λ i. j (c ∙ i)) in (z .0, z .1, z .2, A .used ∙ z .3, A .tally ∙ z .4 ∙ ap (λ i. raised t (rowAt i (rowIf (z .1)))) (sym c));
       past = let e : word m 0 ≡ (stepOn s t (reading bytes)) .after .settings .room = room-is H ∙ sym (ap (λ g. g .room) (step-settings s t (reading bytes))) in rw e (A .after .past);
     }
 act-door t bytes m m′ d h x y (inr (n, A)) =
@@ -176,7 +177,7 @@ act-door t bytes m m′ d h x y (inr (n, A)) =
 -- ---- run. out, out′: the answer slice before and after
 pub record RunDoor (t : Tally) (bytes : List ℕ) (x : RunDone) (m m′ out out′ : List ℕ) : Type 0 where
   pub code : (x .ran .code ≡ 0) ⊎ ((x .ran .code ≡ 2) ⊎ ((x .ran .code ≡ 11) ⊎ (x .ran .code ≡ 12)))
-  pub whole : (x .ran .code ≡ 2) ↔ (¬ ((s : State) × Sound s × Holds m s))
+  pub whole : (x .ran .code ≡ 2) ↔ (¬ (Whole m))
   -- "Every code but 0 leaves link memory as it stood before that record": a run none of whose answers has code 0 changes nothing
   pub refused : AllRefused (x .ran .answered) out′ → m′ ≡ m
   -- the place is "its length" at its end
@@ -222,7 +223,7 @@ run-door t bytes m m′ out out′ x h p q (inr (n, A)) = record {
 }
 
 -- "an empty run on a whole link ends well with nothing written"
-pub empty-run : (t : Tally) (m m′ out out′ : List ℕ) (x : RunDone) → ((s : State) × Sound s × Holds m s) → Bytes m → Bytes m′ → Runs t [] x m m′ out out′
+pub empty-run : (t : Tally) (m m′ out out′ : List ℕ) (x : RunDone) → Whole m → Bytes m → Bytes m′ → Runs t [] x m m′ out out′
     → (x ≡ record { tally = t; ran = record { code = 0; place = 0; answered = 0 } }) × (m′ ≡ m) × (out′ ≡ out)
 empty-run t m m′ out out′ x w p q (inl (s, W, H, A)) = (whole-run x ∙ rw (A .tally, A .code, A .place, A .answered), after-same m m′ s W p q H (A .after), A .slice)
 empty-run t m m′ out out′ x w p q (inr (n, A)) = absurd (n w)
@@ -230,7 +231,7 @@ empty-run t m m′ out out′ x w p q (inr (n, A)) = absurd (n w)
 -- ---- tell: "the number of voids kept, with code 0, or 0 voids with code 2"
 pub record TellDoor (x : Told) (m : List ℕ) : Type 0 where
   pub code : (x .code ≡ 0) ⊎ (x .code ≡ 2)
-  pub whole : (x .code ≡ 2) ↔ (¬ ((s : State) × Sound s × Holds m s))
+  pub whole : (x .code ≡ 2) ↔ (¬ (Whole m))
   pub refused : x .code ≢ 0 → x .voids ≡ 0
 
 pub tell-door : (m : List ℕ) (x : Told) → Tells x m → TellDoor x m

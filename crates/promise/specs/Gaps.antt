@@ -14,7 +14,7 @@ use Rattle.state.specs.State.{State, meaning}
 use Rattle.state.specs.Sound.{Sound}
 use Rattle.state.specs.VoidLaws.{length-voids}
 use Rattle.state.specs.History.{Event}
-use Rattle.memory.specs.Holds.{Holds}
+use Rattle.memory.specs.Holds.{Holds, Whole}
 use Rattle.calls.specs.declared.act.Done.{Done}
 use Rattle.calls.specs.declared.run.RunDone.{RunDone}
 use Rattle.calls.specs.declared.tell.Told.{Told}
@@ -28,7 +28,7 @@ use Rattle.promise.specs.GapLaws.{begun, standing, standing-means, each-
 use Rattle.promise.specs.Visits.{CountsOf, orders-count}
 
 module _ {g : Settings} {F : ℕ} {past : List Event} {m : List ℕ} (S : Since g F past m) where
-  pub always-whole : (s : State) × Sound s × Holds m s
+  pub always-whole : Whole m
   always-whole = let T = standing S in (T .life .state, T .sound, T .holds)
 
   -- code 2 is "never given for memory that only these calls have changed since an accepted opening": no order, and no run

@@ -96,7 +96,7 @@ module _ (c : Change) (m0 : List ℕ) (t k d : ℕ) (ws : List ℕ) where
         }
 
     -- nothing has changed at the place, nor does it above
-    pub settling-node : nodeAt m (at j) ≡ nodeAt m0 (at j)
+    settling-node : nodeAt m (at j) ≡ nodeAt m0 (at j)
     settling-node = rising-node j m _ (S .rising)
 
     settling-still : nodeAt m (at (suc j)) ≡ nodeAt m0 (at (suc j)) → Settling c m0 t k d ws j m
@@ -118,6 +118,10 @@ module _ (c : Change) (m0 : List ℕ) (t k d : ℕ) (ws : List ℕ) where
   pub at-first : (i : ℕ) (m m2 : List ℕ) (x : ℕ) → Rising c m0 t k d ws i x m → Becomes c k t t m0 m2 → Becomes c k t (getD ws 0 0) m0 m2
   at-first i m m2 x R b = rw (R .way .first) b
 
-  pub stopped : (i : ℕ) (m : List ℕ) → Settling c m0 t k d ws i m → nodeAt m (at i) ≡ nodeAt m0 (at i) → Becomes c k t t m0 m
+  stopped : (i : ℕ) (m : List ℕ) → Settling c m0 t k d ws i m → nodeAt m (at i) ≡ nodeAt m0 (at i) → Becomes c k t t m0 m
   stopped zero m S e = settled zero (omega arith) m S
   stopped (suc i) m S e = stopped i m (settling-still i m S e) (settling-node i m S)
+
+  -- a place whose sums stay: the way above it stays too
+  pub halted : (j : ℕ) (m m2 : List ℕ) → Settling c m0 t k d ws (suc j) m → Summed (at j) m m2 → m2 ≡ m → Becomes c k t t m0 m2
+  halted j m m2 S o e = stopped j m2 (settling-next j m S m2 o) (rw e (settling-node j m S))

@@ -7,7 +7,7 @@ use native.Mathlib.Decide.{ℕ-discrete}
 use native.Mathlib.Omega.{arith}
 use lib.Dec.{ltb}
 use lib.ListN.{length, getD, set, length-set}
-use lib.Seq.{getD-set-same, getD-set-other}
+use lib.Seq.{getD-set-same}
 use Rattle.shape.specs.Side.{near, far}
 use Rattle.node.specs.declared.Node.{Node}
 use Rattle.node.specs.Layout.{Within, nodeAt}
@@ -15,6 +15,7 @@ use Rattle.node.specs.Paths.{longestWay}
 use Rattle.tree.specs.Changes.{Alone}
 use Rattle.tree.specs.Ways.{Leads, Way, Partway}
 use Rattle.node.proofs.Reps.{tall}
+use Rattle.node.proofs.Paths.{noted, noted-here}
 use Rattle.tree.proofs.Setting.{within-alone, down}
 
 -- the way is noted down to the place `at`, d steps below t, where the node n was read
@@ -93,17 +94,14 @@ module _ (m : List ℕ) (t k : ℕ) (ws0 ws : List ℕ) (at d : ℕ) (n : Node) 
           room = omega (arith, T .room, below .1, length-set ws (d + 1) x);
           short = omega (arith, T .short, below .1);
           here = getD-set-same ws (d + 1) x 0 (deeper .0);
-          first = getD-set-other ws (d + 1) 0 x 0 (λ q. omega arith) ∙ T .first;
+          first = noted ws d x 0 (omega arith) ∙ T .first;
           leads = λ i l. go i l;
         }
       where
-        same : (i : ℕ) → i ≤ d → getD (set ws (d + 1) x) i 0 ≡ getD ws i 0
-        same i l = getD-set-other ws (d + 1) i x 0 (λ q. omega arith)
-
         go : (i : ℕ) → i < d + 1 → Leads m k (getD (set ws (d + 1) x) i 0) (getD (set ws (d + 1) x) (suc i) 0)
         go i l = elim (ℕ-discrete i d) [
-          | yes e ↦ let q : suc d ≡ d + 1 = omega arith in rw (e, same d (omega arith), T .here, q, getD-set-same ws (d + 1) x 0 (deeper .0)) leads-here
-          | no q ↦ rw (same i (omega arith), same (suc i) (omega arith)) (T .leads i (omega arith))
+          | yes e ↦ rw (e, noted ws d x d (omega arith), T .here, noted-here ws d x (deeper .0)) leads-here
+          | no q ↦ rw (noted ws d x i (omega arith), noted ws d x (suc i) (omega arith)) (T .leads i (omega arith))
         ]
 
     pub lower : (n′ : Node) → n′ ≡ nodeAt m x → n′ .height < n .height

@@ -13,6 +13,7 @@ use Rattle.shape.specs.HeightLaws.{height-few}
 use Rattle.shape.specs.EvenLaws.{even-insert, even-remove, even-set}
 use Rattle.shape.specs.SizeLaws.{size-insert, size-set, size-less}
 use Rattle.node.specs.Layout.{Within, nodeAt, leafNode, Saved}
+use Rattle.node.specs.Paths.{longestWay}
 use Rattle.node.specs.Rep.{Rep, Stands}
 use Rattle.node.proofs.Frames.{within-kept}
 use Rattle.node.proofs.Reps.{leaf-stands, tall}
@@ -38,7 +39,7 @@ planted m m′ k e l s = (
 pub higher : (m : List ℕ) (root used a more b : ℕ) → used ≤ more → a ≤ b → Has m root used a → Has m root more b
 higher m root used a more b g h x = (x .0, record { stands = x .1 .stands; once = x .1 .once; free = λ z y. x .1 .free z (omega arith); even = x .1 .even; few = omega (arith, x .1 .few) })
 
-short : (m : List ℕ) (root used high : ℕ) → high ≤ 30000 → (t : Tree) → Grown m root used high t → height t < 32
+short : (m : List ℕ) (root used high : ℕ) → high ≤ 30000 → (t : Tree) → Grown m root used high t → height t < longestWay
 short m root used high h t g = height-few t (g .even) (omega (arith, g .few))
 
 lone : (m : List ℕ) (root used high : ℕ) → high ≤ 30000 → (t : Tree) → Grown m root used high t → Sole m root t
@@ -47,7 +48,7 @@ lone m root used high h t g = record { stands = g .stands; once = g .once; even 
 pub alone : (m : List ℕ) (root used high : ℕ) → high ≤ 30000 → Has m root used high → Alone m root
 alone m root used high h x = (x .0, lone m root used high h (x .0) (x .1))
 
-pub searchable : (m : List ℕ) (root used high : ℕ) (ws : List ℕ) → high ≤ 30000 → 32 ≤ length ws → Has m root used high → Searchable m root ws
+pub searchable : (m : List ℕ) (root used high : ℕ) (ws : List ℕ) → high ≤ 30000 → longestWay ≤ length ws → Has m root used high → Searchable m root ws
 searchable m root used high ws h l x = (x .0, x .1 .stands, short m root used high h (x .0) (x .1), l)
 
 -- ---- a void more, in the places p and p + 1

@@ -3,6 +3,7 @@
 ghost use mathlib.Core.Path.{_≡_};
 ghost use Prim.Native.Nat.{_+_, _*_, _≤_, _<_};
 ghost use lib.ListN.{length};
+ghost use Rattle.node.specs.Paths.{longestWay};
 ghost use Rattle.tree_run.specs.Grown.{Has};
 
 const VOIDS: usize = 2000;
@@ -61,7 +62,7 @@ fn grow(mem: &mut [u8]) -> usize
 // Searches for ROUNDS bursts. The digest of the answers.
 fn look(mem: &[u8], root: usize, way: &mut [u16]) -> u64
     requires { ⌜ Has (now mem) root 4000 12000 ⌝ }
-    requires { ⌜ 32 ≤ length (now way) ⌝ }
+    requires { ⌜ longestWay ≤ length (now way) ⌝ }
 {
     let mut digest = 0;
     let mut i = 0;

@@ -1,7 +1,7 @@
 -- `node::save`: the sums, then height and places. Assumes nothing.
 use borrow.Author.Needs.{needs}
 use native.Mathlib.Omega.{arith}
-use Rattle.node.proofs.Sums.{saved-of}
+use Rattle.node.proofs.Nodes.{saved-of}
 use Rattle.node.proofs.save.Statement.{statement}
 use Rattle.node.proofs.save.Tie as tie
 

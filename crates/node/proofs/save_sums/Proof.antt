@@ -2,7 +2,7 @@ use borrow.Author.Needs.{needs}
 use mathlib.Core.Path.{_≡_}
 use native.Mathlib.Omega.{arith}
 use Rattle.node.specs.Layout.{sumsSaved}
-use Rattle.node.proofs.Sums.{sums-written}
+use Rattle.node.proofs.Nodes.{sums-written}
 use Rattle.node.proofs.save_sums.Statement.{statement}
 use Rattle.node.proofs.save_sums.Tie as tie
 

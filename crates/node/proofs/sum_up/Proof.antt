@@ -1,3 +1,5 @@
+use mathlib.Core.Path.{sym, _∙_}
+use mathlib.Core.Bool.{false≢true}
 use borrow.Author.Needs.{needs}
 use Rattle.node.proofs.Sums.{left-in, right-in, sums-none, sums-saved}
 use Rattle.node.proofs.sum_up.Statement.{statement}
@@ -31,7 +33,7 @@ same-length-2 : tie.Need-same-length-2
 same-length-2 c = search needs
 
 returns-2 : tie.Need-returns-2
-returns-2 c = sums-saved _ _ _ _ _ _ (c .before .before .before .before .before .before .before .before .before .before .before .load .ensures) (c .before .before .before .before .before .before .before .before .before .load2 .ensures) (c .before .before .before .before .before .before .before .load3 .ensures) (c .before .before .before .before .before .before .summed .ensures) _ (c .before .before .save-sums .ensures .1)
+returns-2 c = sums-saved _ _ _ _ _ _ (c .before .before .before .before .before .before .before .before .before .before .before .load .ensures) (c .before .before .before .before .before .before .before .before .before .load2 .ensures) (c .before .before .before .before .before .before .before .load3 .ensures) (c .before .before .before .before .before .before .summed .ensures) (λ a. false≢true (sym (c .before .before .before .before .if1 .left) ∙ c .before .before .before .before .before .alike .ensures .1 a)) _ (c .before .before .save-sums .ensures .1)
 
 pub sum-up-spec : {M : Type 1} → statement M
 sum-up-spec =

@@ -5,7 +5,7 @@ use borrow.Author.Tests.{not-true}
 use mathlib.Core.List.{List}
 use lib.ListN.{length}
 use Rattle.tree.specs.Ways.{Change, Settling}
-use Rattle.tree.proofs.Settling.{settling-before, settling-in, settling-next, settling-node, settled, stopped}
+use Rattle.tree.proofs.Settling.{settling-before, settling-in, settling-next, settled, halted}
 use Rattle.tree.proofs.settle.Statement.{statement}
 use Rattle.tree.proofs.settle.Tie as tie
 
@@ -37,7 +37,7 @@ same-length : tie.Need-same-length Inv-loop μ-loop
 same-length c = c .before .before .before .sum-up .ensures .summed .kept .len ∙ c .before .before .before .before .before .before .before .loop .inv .1
 
 returns : tie.Need-returns Inv-loop μ-loop
-returns c = λ v m0 t k d S. stopped v m0 t k d _ _ _ (settling-next _ _ _ _ _ _ _ _ (settling-before _ _ _ _ _ _ _ (c .before .before .before .before .before .before .loop-test .taken) _ (c .before .before .before .before .before .before .before .loop .inv .2 _ _ _ _ _ S)) _ (c .before .before .before .sum-up .ensures .summed)) (c .before .before .before .sum-up .ensures .still (not-true _ (c .if1 .taken)) ∙ settling-node _ _ _ _ _ _ _ _ (settling-before _ _ _ _ _ _ _ (c .before .before .before .before .before .before .loop-test .taken) _ (c .before .before .before .before .before .before .before .loop .inv .2 _ _ _ _ _ S)))
+returns c = λ v m0 t k d S. halted v m0 t k d _ _ _ _ (settling-before _ _ _ _ _ _ _ (c .before .before .before .before .before .before .loop-test .taken) _ (c .before .before .before .before .before .before .before .loop .inv .2 _ _ _ _ _ S)) (c .before .before .before .sum-up .ensures .summed) (c .before .before .before .sum-up .ensures .still (not-true _ (c .if1 .taken)))
 
 loop-less : tie.Need-loop-less Inv-loop μ-loop
 loop-less c = omega (arith, c .before .before .before .before .before .before .loop-test .taken)
