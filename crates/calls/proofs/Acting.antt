@@ -6,11 +6,11 @@ use Prim.Native.Nat.{ℕ, zero, suc, _+_, _*_, _-_, _≤_, _<_}
 use native.Mathlib.Omega.{arith}
 use borrow.Author.Tests.{lt-leb}
 use lib.ListN.{length, drop, getD, drop-of-length-le}
-use Rattle.rule.specs.declared.tally.Tally.{Tally}
+use Rattle.tally.specs.declared.Tally.{Tally}
 use Rattle.rule.specs.declared.answer.Answer.{Answer}
 use Rattle.rule.specs.Order.{Order}
 use Rattle.rule.specs.Answer.{seven, numbersOf}
-use Rattle.rule.specs.Counts.{rowOf, raised}
+use Rattle.tally.specs.Counts.{rowOf, raised}
 use Rattle.order.specs.Records.{Reading, unread, opening, order, reading, usedBy}
 use Rattle.order.specs.Kinds.{Kind, kind}
 use Rattle.order.proofs.Alone.{inside}

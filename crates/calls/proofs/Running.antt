@@ -7,11 +7,11 @@ use native.Mathlib.Omega.{arith}
 use borrow.Author.Tests.{le-leb, lt-leb}
 use lib.ListN.{length, take, drop, length-append, length-drop, take-append-drop, drop-of-length-le}
 use lib.Seq.{take-all, sets, sets-eq, length-sets, take-at, drop-at, drop-drop, length-take-le}
-use Rattle.rule.specs.declared.tally.Tally.{Tally}
+use Rattle.tally.specs.declared.Tally.{Tally}
 use Rattle.rule.specs.declared.answer.Answer.{Answer}
 use Rattle.rule.specs.Order.{Order}
 use Rattle.rule.specs.Answer.{seven, numbersOf}
-use Rattle.rule.specs.Counts.{rowOf, raised}
+use Rattle.tally.specs.Counts.{rowOf, raised}
 use Rattle.order.specs.Records.{Reading, unread, opening, order, reading, usedBy}
 use Rattle.order.specs.Kinds.{Kind, kind}
 use Rattle.order.proofs.Alone.{inside}

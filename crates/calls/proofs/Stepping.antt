@@ -11,7 +11,7 @@ use denote.Enum.Declared.{tagOf}
 use lib.Dec.{eqb}
 use lib.ListN.{length, getD}
 use Rattle.numbers.specs.Case.{pick}
-use Rattle.rule.specs.declared.tally.Tally.{Tally}
+use Rattle.tally.specs.declared.Tally.{Tally}
 use Rattle.rule.specs.declared.answer.Answer.{Answer}
 use Rattle.rule.specs.Moments.{lastMoment}
 use Rattle.rule.specs.Settings.{longest}
@@ -21,7 +21,7 @@ use Rattle.rule.specs.Starts.{starts}
 use Rattle.rule.specs.Choice.{Choice, nothing, taken}
 use Rattle.rule.specs.Answer.{Reply, booked, swept, refused, seven, numbersOf}
 use Rattle.rule.specs.Codes.{bookingCode, sweepCode, chosenReply, tooMany}
-use Rattle.rule.specs.Counts.{rowOf, raised}
+use Rattle.tally.specs.Counts.{rowOf, raised}
 use Rattle.order.specs.declared.Record.{Record}
 use Rattle.order.specs.declared.Record.the-variants.{Opening, Booking, Sweep, Refused}
 use Rattle.order.proofs.Record.{the-type}

@@ -6,10 +6,10 @@ use Prim.Native.Nat.{ℕ, zero, suc, _+_, _*_, _-_, _≤_, zero-le}
 use native.Mathlib.Omega.{arith}
 use lib.ListN.{length, drop}
 use Rattle.numbers.specs.Case.{case-le}
-use Rattle.rule.specs.declared.tally.Tally.{Tally}
+use Rattle.tally.specs.declared.Tally.{Tally}
 use Rattle.rule.specs.Order.{Order}
 use Rattle.rule.specs.Settings.{Settings}
-use Rattle.rule.specs.Counts.{rowOf, raised}
+use Rattle.tally.specs.Counts.{rowOf, raised}
 use Rattle.order.specs.Records.{Reading, unread, opening, order, reading, usedBy}
 use Rattle.order.specs.Kinds.{Kind, kind}
 use Rattle.order.proofs.Alone.{inside}

@@ -6,9 +6,9 @@ use Prim.Native.Nat.{ℕ, _*_, _-_}
 use lib.Dec.{eqb}
 use Rattle.numbers.specs.Case.{pick}
 use lib.ListN.{length, drop}
-use Rattle.rule.specs.declared.tally.Tally.{Tally}
+use Rattle.tally.specs.declared.Tally.{Tally}
 use Rattle.rule.specs.Answer.{refused, seven, numbersOf}
-use Rattle.rule.specs.Counts.{raised}
+use Rattle.tally.specs.Counts.{raised}
 use Rattle.order.specs.Records.{reading}
 use Rattle.shape.specs.Tree.{size}
 use Rattle.state.specs.State.{State}

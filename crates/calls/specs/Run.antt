@@ -4,10 +4,10 @@ use Prim.Native.Nat.{ℕ, zero, suc, _+_, _-_}
 use lib.Dec.{leb}
 use lib.ListN.{length, drop}
 use Rattle.numbers.specs.Case.{pick}
-use Rattle.rule.specs.declared.tally.Tally.{Tally}
+use Rattle.tally.specs.declared.Tally.{Tally}
 use Rattle.rule.specs.Order.{Order}
 use Rattle.rule.specs.Answer.{Reply, refused, seven}
-use Rattle.rule.specs.Counts.{rowOf, raised}
+use Rattle.tally.specs.Counts.{rowOf, raised}
 use Rattle.order.specs.Records.{Reading, unread, opening, order, reading}
 use Rattle.state.specs.State.{State}
 use Rattle.state.specs.Act.{Outcome, act}

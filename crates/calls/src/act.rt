@@ -5,7 +5,7 @@ ghost use Rattle.rule.specs.Answer.{numbersOf};
 ghost use Rattle.calls.specs.Calls.{Unused, Acts};
 use crate::run::run;
 use rule::answer::Answer;
-use rule::tally::Tally;
+use tally::Tally;
 
 // What a single order gives: the seven numbers and the bytes used.
 #[repr(C)]

@@ -8,7 +8,7 @@ ghost use Rattle.memory.specs.Holds.{Whole};
 ghost use Rattle.calls.specs.Calls.{rowAt, Steps, Runs};
 use order::Record;
 use rule::answer::Answer;
-use rule::tally::Tally;
+use tally::Tally;
 
 // What a run gives: the code that ended it, the place of the first byte not acted on, the records answered.
 #[repr(C)]
@@ -147,7 +147,7 @@ pub fn run(mem: &mut [u8], tally: Tally, records: &[u8], answers: &mut [u64]) ->
         }
         let answer = x.answer;
         put(answers, written, answer);
-        t = rule::tally::raise(t, x.row);
+        t = tally::raise(t, x.row);
         place += used;
         answered += 1;
         written += 7;

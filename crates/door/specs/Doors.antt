@@ -1,7 +1,7 @@
 -- What the doors promise: what crate `calls` promises, with the tally before and after in the caller's place.
 use mathlib.Core.List.{List}
 use Prim.Native.Nat.{ℕ}
-use Rattle.rule.specs.declared.tally.Tally.{Tally}
+use Rattle.tally.specs.declared.Tally.{Tally}
 use Rattle.calls.specs.declared.act.Acted.{Acted}
 use Rattle.calls.specs.declared.run.Ran.{Ran}
 use Rattle.calls.specs.Calls.{Acts, Runs}

@@ -7,7 +7,7 @@ use calls::act::Acted;
 use calls::open::Opened;
 use calls::run::Ran;
 use calls::tell::Told;
-use rule::tally::Tally;
+use tally::Tally;
 
 #[no_mangle]
 pub extern "C" fn curlywether_open(memory: &mut [u8], room: u64, bytes: &[u8]) -> Opened

@@ -5,7 +5,7 @@ use mathlib.Core.Logic.{inl, inr}
 use mathlib.Core.List.{List}
 use Prim.Native.Nat.{ℕ}
 use lib.ListN.{length}
-use Rattle.rule.specs.declared.tally.Tally.{Tally}
+use Rattle.tally.specs.declared.Tally.{Tally}
 use Rattle.rule.specs.Settings.{Settings}
 use Rattle.rule.specs.Order.{Order}
 use Rattle.rule.specs.Answer.{numbersOf}
@@ -16,13 +16,13 @@ use Rattle.calls.specs.declared.act.Done.{Done}
 use Rattle.calls.specs.declared.run.RunDone.{RunDone}
 use Rattle.calls.specs.declared.tell.Told.{Told}
 use Rattle.calls.specs.Calls.{Acts, Runs, Tells}
-use Rattle.promise.specs.Orders.{ordersIn, orders-one}
-use Rattle.promise.specs.Session.{Call, acting, Since, Each}
-use Rattle.promise.specs.Answered.{Many, Answered}
-use Rattle.promise.specs.RunLaws.{run-is-orders}
-use Rattle.promise.specs.Memories.{tells-of}
-use Rattle.promise.specs.GapLaws.{begun, standing, standing-means, each-call}
-use Rattle.promise.specs.AnsweredLaws.{answered, many}
+use Rattle.grounds.specs.Orders.{ordersIn, orders-one}
+use Rattle.grounds.specs.Session.{Call, acting, Since, Each}
+use Rattle.grounds.specs.Answered.{Many, Answered}
+use Rattle.grounds.specs.RunLaws.{run-is-orders}
+use Rattle.grounds.specs.Memories.{tells-of}
+use Rattle.grounds.specs.GapLaws.{begun, standing, standing-means, each-call}
+use Rattle.grounds.specs.AnsweredLaws.{answered, many}
 
 -- (2) "each booking is the Min-SV fit by the statement's rules over the gaps that the whole accepted history leaves idle, and \"nothing
 -- fits\" is said exactly if nothing fits"; (3) "the count of tree nodes visited is exactly the published search's, and at most

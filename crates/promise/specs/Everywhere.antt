@@ -3,7 +3,7 @@
 use mathlib.Core.Path.{_≡_, sym, _∙_, ap, subst}
 use mathlib.Core.List.{List}
 use Prim.Native.Nat.{ℕ}
-use Rattle.rule.specs.declared.tally.Tally.{Tally}
+use Rattle.tally.specs.declared.Tally.{Tally}
 use Rattle.rule.specs.Order.{Order}
 use Rattle.rule.specs.Answer.{seven, numbersOf}
 use Rattle.order.specs.Records.{order, reading}
@@ -16,9 +16,9 @@ use Rattle.memory.specs.Holds.{Holds}
 use Rattle.calls.specs.declared.act.Done.{Done}
 use Rattle.calls.specs.Run.{stepOn}
 use Rattle.calls.specs.Calls.{Acts}
-use Rattle.promise.specs.Answered.{Answered}
-use Rattle.promise.specs.Memories.{acts-on}
-use Rattle.promise.specs.AnsweredLaws.{sound-answered}
+use Rattle.grounds.specs.Answered.{Answered}
+use Rattle.grounds.specs.Memories.{acts-on}
+use Rattle.grounds.specs.AnsweredLaws.{sound-answered}
 
 pub whole-answered : (m m′ : List ℕ) (s : State) → Sound s → Holds m s → (t : Tally) (bytes : List ℕ) (d : Done) (used : ℕ) (o : Order)
     → Acts t bytes d m m′ → reading bytes ≡ order used o → Answered (s .settings) (s .floor) (VoidsIn (s .tree)) o (numbersOf (d .acted .answer))

@@ -4,7 +4,7 @@ use mathlib.Core.Path.{_≡_, refl, sym, _∙_, ap, subst}
 use mathlib.Core.List.{List}
 use Prim.Native.Nat.{ℕ}
 use lib.ListN.{length, getD}
-use Rattle.rule.specs.declared.tally.Tally.{Tally}
+use Rattle.tally.specs.declared.Tally.{Tally}
 use Rattle.rule.specs.declared.answer.Answer.{Answer}
 use Rattle.rule.specs.Answer.{numbersOf}
 use Rattle.order.specs.Records.{Reading, unread, opening, order, reading}
@@ -23,7 +23,7 @@ use Rattle.calls.specs.declared.tell.Told.{Told}
 use Rattle.calls.specs.Opens.{settingsOf, OpensAs, OpensRead, Opens}
 use Rattle.calls.specs.Run.{stepOn, runOn}
 use Rattle.calls.specs.Calls.{StepsTo, ActsNot, Acts, RunsTo, RunsNot, Runs, Tells}
-use Rattle.promise.specs.Memories.{gives-both, after-one}
+use Rattle.grounds.specs.Memories.{whole-run, gives-both, after-one}
 
 -- the seven numbers fix the answer
 whole-answer : (a : Answer) → a ≡ record { code = a .code; channel = a .channel; line = a .line; start = a .start; finish = a .finish; count = a .count; dropped = a .dropped }
@@ -39,9 +39,6 @@ whole-done d = refl
 
 done-one : (d d′ : Done) → numbersOf (d .acted .answer) ≡ numbersOf (d′ .acted .answer) → d .acted .used ≡ d′ .acted .used → d .tally ≡ d′ .tally → d ≡ d′
 done-one d d′ a u t = let e = answer-one (d .acted .answer) (d′ .acted .answer) a in whole-done d ∙ rw (e, u, t)
-
-pub whole-run : (x : RunDone) → x ≡ record { tally = x .tally; ran = record { code = x .ran .code; place = x .ran .place; answered = x .ran .answered } }
-whole-run x = refl
 
 -- ---- open
 pub one-open : (room : ℕ) (bytes m m′ m″ : List ℕ) (o o′ : Opened) → Bytes m′ → Bytes m″ → Opens room bytes o m m′ → Opens room bytes o′ m m″ → (o ≡ o′) × (m′ ≡ m″)

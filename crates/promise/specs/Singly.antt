@@ -6,10 +6,10 @@ use mathlib.Core.List.{List, [], _∷_, _++_}
 use Prim.Native.Nat.{ℕ, suc, _+_, _*_, _≤_}
 use native.Mathlib.Omega.{arith}
 use lib.ListN.{length, drop}
-use Rattle.rule.specs.declared.tally.Tally.{Tally}
+use Rattle.tally.specs.declared.Tally.{Tally}
 use Rattle.rule.specs.Order.{Order}
 use Rattle.rule.specs.Answer.{seven, numbersOf}
-use Rattle.rule.specs.Counts.{counts, sum}
+use Rattle.tally.specs.Counts.{counts, sum}
 use Rattle.order.specs.Records.{Reading, unread, opening, order, reading}
 use Rattle.node.proofs.Same.{Bytes}
 use Rattle.state.specs.State.{State}
@@ -23,10 +23,10 @@ use Rattle.calls.specs.declared.act.Done.{Done}
 use Rattle.calls.specs.declared.run.RunDone.{RunDone}
 use Rattle.calls.specs.Run.{stepOn, runOn, flat}
 use Rattle.calls.specs.Calls.{StepsTo, Acts, Runs}
-use Rattle.promise.specs.Orders.{ordersIn, orders-one, sevens, after, tallied}
-use Rattle.promise.specs.RecordLaws.{bytes-drop, order-fair}
-use Rattle.promise.specs.RunLaws.{run-is-orders, after-sound, after-settings, Below, below-all, sum-rises}
-use Rattle.promise.specs.Memories.{acts-on, after-one}
+use Rattle.grounds.specs.Orders.{ordersIn, orders-one, sevens, after, tallied}
+use Rattle.grounds.specs.RecordLaws.{bytes-drop, order-fair}
+use Rattle.grounds.specs.RunLaws.{run-is-orders, after-sound, after-settings, Below, below-all, sum-rises}
+use Rattle.grounds.specs.Memories.{acts-on, after-one}
 
 -- single orders, each on the bytes that the one before did not use, on the memory and with the tally that it left
 pub data Singly : Tally → (bytes m : List ℕ) → (answers : List (List ℕ)) → Tally → (m′ : List ℕ) → Type 0 where

@@ -18,7 +18,7 @@ use Rattle.rule.specs.Choice.{NoFit, MinSV}
 use Rattle.rule.specs.Order.{booking}
 use Rattle.rule.specs.Answer.{booked, refused, seven, numbersOf}
 use Rattle.rule.specs.Codes.{tooMany}
-use Rattle.rule.specs.declared.tally.Tally.{Tally}
+use Rattle.tally.specs.declared.Tally.{Tally}
 use Rattle.order.specs.Records.{order, reading}
 use Rattle.shape.specs.Tree.{Tree}
 use Rattle.shape.specs.Visits.{published}
@@ -26,11 +26,11 @@ use Rattle.node.proofs.Same.{Bytes}
 use Rattle.state.specs.History.{on, books, held, Stretches}
 use Rattle.calls.specs.declared.act.Done.{Done}
 use Rattle.calls.specs.Calls.{Acts}
-use Rattle.promise.specs.Orders.{ordersIn, orders-one}
-use Rattle.promise.specs.Session.{acting, Since, heardAll}
-use Rattle.promise.specs.Gaps.{same-memory}
-use Rattle.promise.specs.Right.{Right}
-use Rattle.promise.specs.Answered.{refusal, Tries, Answered}
+use Rattle.grounds.specs.Orders.{ordersIn, orders-one}
+use Rattle.grounds.specs.Session.{acting, Since, heardAll}
+use Rattle.grounds.specs.Gaps.{same-memory}
+use Rattle.grounds.specs.Right.{Right}
+use Rattle.grounds.specs.Answered.{refusal, Tries, Answered}
 
 -- two channels and no lines, opened at 0
 abbrev two : Settings

@@ -10,8 +10,6 @@ pub mod Order
 pub mod Answer
 pub mod Codes
 pub mod Rule
-pub mod Counts
-pub mod CountLaws
 pub mod Key
 pub mod Height
 pub mod Single

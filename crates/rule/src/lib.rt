@@ -9,4 +9,3 @@ pub mod kept;
 pub mod key;
 pub mod moments;
 pub mod starts;
-pub mod tally;

@@ -4,7 +4,7 @@ ghost use Prim.Native.Nat.{_+_, _*_, _≤_};
 ghost use lib.ListN.{length};
 use calls::run::Ran;
 use rule::answer::Answer;
-use rule::tally::Tally;
+use tally::Tally;
 
 const ROOM: u64 = 256;
 

@@ -43,9 +43,9 @@ use denote.Triple.Walked.{says, needs, Stays, stay-ref, stay-none, stay-none-sli
 use denote.Exit.{yes}
 use lib.ListN.{length}
 use Rattle.calls.specs.Calls.{Acts}
-use Rattle.rule.specs.declared.tally.Tally.{Tally}
-use Rattle.rule.proofs.tally.Tally as T
-use Rattle.rule.proofs.tally.Tally.Laws as T′
+use Rattle.tally.specs.declared.Tally.{Tally}
+use Rattle.tally.proofs.Tally as T
+use Rattle.tally.proofs.Tally.Laws as T′
 use Rattle.calls.specs.declared.act.Acted.{Acted}
 use Rattle.calls.proofs.act.Acted as N
 use Rattle.calls.proofs.act.Acted.Laws as N′
