@@ -9,7 +9,7 @@ struct Cut {
     node: usize,
 }
 
-// A slice passes as a pointer and a length. The functions ask that a tree stands at the root (crates/tree/specs).
+// A slice passes as a pointer and a length. The functions ask that a tree stands at the root (`Alone`, crates/tracing/specs).
 extern "C" {
     fn tree_plant(mem: *mut u8, len: usize, p: usize, key: u64, end: u64);
     fn tree_insert(mem: *mut u8, len: usize, root: usize, key: u64, end: u64, p: usize, q: usize) -> usize;

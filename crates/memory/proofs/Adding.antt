@@ -12,7 +12,7 @@ use Rattle.shape.specs.Arrange.{insert}
 use Rattle.node.specs.declared.Node.{Node}
 use Rattle.node.specs.Layout.{Within, nodeAt}
 use Rattle.node.proofs.Reps.{rep-within}
-use Rattle.tree.specs.Changes.{Fresh, Ready, Grown, Inserts}
+use Rattle.rising.specs.Changes.{Fresh, Ready, Grown, Inserts}
 use Rattle.state.specs.State.{State, first, rest, places, add}
 use Rattle.state.specs.Sound.{among, below}
 use Rattle.memory.specs.Header.{header}

@@ -12,8 +12,10 @@ use Rattle.shape.specs.Arrange.{remove}
 use Rattle.node.specs.declared.Node.{Node}
 use Rattle.node.specs.Layout.{Within, nodeAt, Saved}
 use Rattle.node.proofs.Reps.{rep-within, seen, within, tall}
-use Rattle.tree.specs.declared.Cut.{Cut}
-use Rattle.tree.specs.Changes.{Alone, Ordered, Shrunk, Removes, RemovesFirst}
+use Rattle.tracing.specs.Alone.{Alone}
+use Rattle.rising.specs.declared.Cut.{Cut}
+use Rattle.rising.specs.Changes.{Shrunk, Removes}
+use Rattle.tree.specs.OnWays.{Ordered, RemovesFirst}
 use Rattle.state.specs.State.{State, first, places, drop}
 use Rattle.state.specs.Sound.{among, below, mostKey}
 use Rattle.memory.specs.Header.{header}

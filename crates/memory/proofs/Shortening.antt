@@ -7,9 +7,10 @@ use Rattle.numbers.specs.Words.{word, store}
 use Rattle.shape.specs.Tree.{place, size}
 use Rattle.shape.specs.HeightLaws.{height-few}
 use Rattle.shape.specs.ChangeLaws.{leaf-uses}
-use Rattle.tree.specs.Changes.{Sole, Alone, Sets}
-use Rattle.tree.specs.Ways.{Partway}
-use Rattle.tree.proofs.Paths.{path-partway}
+use Rattle.tracing.specs.Alone.{Sole, Alone}
+use Rattle.tracing.specs.Ways.{Partway}
+use Rattle.rising.specs.Changes.{Sets}
+use Rattle.tracing.proofs.Paths.{path-partway}
 use Rattle.state.specs.Sound.{mostKey}
 use Rattle.state.specs.State.{State, places, shorten, with-floor}
 use Rattle.memory.specs.Holds.{After}

@@ -7,8 +7,8 @@ use lib.ListN.{length}
 use Rattle.shape.specs.Tree.{Balanced, Ord, low, size}
 use Rattle.numbers.specs.Words.{word}
 use Rattle.node.specs.Paths.{longestWay, Reaches}
-use Rattle.tree.specs.declared.Cut.{Cut}
-use Rattle.tree.specs.Changes.{Shrunk}
+use Rattle.rising.specs.declared.Cut.{Cut}
+use Rattle.rising.specs.Changes.{Shrunk}
 use Rattle.state.specs.State.{State, shorten, add, drop, with-floor}
 use Rattle.state.specs.Act.{dropLeast}
 use Rattle.state.specs.Sound.{mostKey}

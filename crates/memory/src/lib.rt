@@ -32,7 +32,7 @@ pub const SPARE: usize = 7;
 pub const DELAYS: usize = 8;
 
 // The longest way from a root down to a leaf, in places.
-pub const LONGEST_WAY: usize = tree::LONGEST_WAY;
+pub const LONGEST_WAY: usize = tracing::LONGEST_WAY;
 
 // The height that marks a spare node.
 pub const SPARE_MARK: u64 = 2147483648;

@@ -1,14 +1,3 @@
-pub mod Sides
-pub mod Turning
-pub mod Balancing
-pub mod Setting
-pub mod Growing
-pub mod Cutting
-pub mod Tracing
-pub mod Above
-pub mod Climbing
-pub mod Settling
 pub mod Starting
-pub mod Paths
-pub mod Finding
+pub mod Found
 pub mod Single

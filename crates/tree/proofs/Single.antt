@@ -9,9 +9,10 @@ use Rattle.shape.specs.Arrange.{balance, insert, remove, setEnd}
 use Rattle.shape.specs.ChangeLaws.{leaf-uses}
 use Rattle.shape.specs.PlaceLaws.{inners-uses}
 use Rattle.node.proofs.Same.{Bytes, determined}
-use Rattle.tree.specs.declared.Cut.{Cut}
-use Rattle.tree.specs.Turns.{Both, Balances}
-use Rattle.tree.specs.Changes.{Alone, Ready, Sets, Inserts, Removes}
+use Rattle.turning.specs.Turns.{Both, Balances}
+use Rattle.tracing.specs.Alone.{Alone}
+use Rattle.rising.specs.declared.Cut.{Cut}
+use Rattle.rising.specs.Changes.{Ready, Sets, Inserts, Removes}
 
 whole : (c : Cut) → c ≡ record { root = c .root; leaf = c .leaf; node = c .node }
 whole c = refl

@@ -10,14 +10,17 @@ use Rattle.shape.specs.Side.{near, far}
 use Rattle.node.specs.declared.Node.{Node}
 use Rattle.node.specs.Layout.{Within, nodeAt, leafNode, Saved, Mendable}
 use Rattle.node.proofs.Reps.{tall}
-use Rattle.tree.specs.Turns.{OverOn}
+use Rattle.turning.specs.Turns.{OverOn}
 use Rattle.node.specs.Paths.{longestWay}
-use Rattle.tree.specs.Changes.{Alone, Ready}
-use Rattle.tree.specs.Ways.{Leads, Way, adding, cutting, ending, Rising, Settling}
-use Rattle.tree.proofs.Setting.{within-alone, set-leaf}
-use Rattle.tree.proofs.Growing.{within-ready, leaf-mendable, grow-leaf}
-use Rattle.tree.proofs.Cutting.{cut-leaf}
-use Rattle.tree.proofs.Climbing.{begun-at}
+use Rattle.tracing.specs.Alone.{Alone}
+use Rattle.tracing.specs.Ways.{Leads, Way}
+use Rattle.rising.specs.Changes.{Ready}
+use Rattle.rising.specs.Rises.{adding, cutting, ending, Rising, Settling}
+use Rattle.tracing.proofs.Below.{within-alone}
+use Rattle.rising.proofs.Setting.{set-leaf}
+use Rattle.rising.proofs.Growing.{within-ready, leaf-mendable, grow-leaf}
+use Rattle.rising.proofs.Cutting.{cut-leaf}
+use Rattle.rising.proofs.Climbing.{begun-at}
 
 pub short-alone : (m : List ℕ) (t : ℕ) → Alone m t → nodeAt m t .height < longestWay
 short-alone m t a = omega (arith, a .1 .low, tall (a .1 .stands))

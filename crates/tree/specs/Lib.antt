@@ -1,3 +1,1 @@
-pub mod Turns
-pub mod Changes
-pub mod Ways
+pub mod OnWays

@@ -2,7 +2,9 @@
 ghost use Prim.Native.Nat.{_≤_};
 ghost use Rattle.rule.specs.Moments.{lastMoment};
 ghost use Rattle.node.specs.Layout.{Within, nodeAt};
-ghost use Rattle.tree.specs.Changes.{Alone, Ready, Ordered};
+ghost use Rattle.tracing.specs.Alone.{Alone};
+ghost use Rattle.rising.specs.Changes.{Ready};
+ghost use Rattle.tree.specs.OnWays.{Ordered};
 
 #[no_mangle]
 pub extern "C" fn tree_plant(mem: &mut [u8], p: usize, key: u64, end: u64)
@@ -45,7 +47,7 @@ pub extern "C" fn tree_search(mem: &[u8], root: usize, r: u64, f: u64) -> u64
     requires { ⌜ Alone (now mem) root ⌝ }
     requires { ⌜ r ≤ lastMoment ⌝ }
 {
-    let mut way = [0u16; tree::LONGEST_WAY];
+    let mut way = [0u16; tracing::LONGEST_WAY];
     let x = search::search(mem, root, r, f, &mut way);
     x.visits
 }

@@ -18,8 +18,9 @@ use Rattle.node.specs.Rep.{Rep, Stands}
 use Rattle.node.proofs.Frames.{within-kept}
 use Rattle.node.proofs.Reps.{leaf-stands, tall}
 use Rattle.shape.specs.ChangeLaws.{fresh-once}
-use Rattle.tree.specs.declared.Cut.{Cut}
-use Rattle.tree.specs.Changes.{Alone, Sole, Ready, Fresh, Inserts, Removes, Sets}
+use Rattle.tracing.specs.Alone.{Alone, Sole}
+use Rattle.rising.specs.declared.Cut.{Cut}
+use Rattle.rising.specs.Changes.{Ready, Fresh, Inserts, Removes, Sets}
 use Rattle.search.specs.Search.{Searchable}
 use Rattle.tree_run.specs.Grown.{Grown, Has}
 

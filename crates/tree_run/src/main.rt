@@ -114,7 +114,7 @@ fn say(v: u64) {
 // A digest of the searches before the exchanges, one of those after, and the least end at last.
 fn main() {
     let mut mem = [0u8; 160208];
-    let mut way = [0u16; tree::LONGEST_WAY];
+    let mut way = [0u16; tracing::LONGEST_WAY];
     let root = grow(&mut mem);
     say(look(&mem, root, &mut way));
     let after = exchange(&mut mem, root);

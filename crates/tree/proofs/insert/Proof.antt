@@ -1,7 +1,7 @@
 use borrow.Author.Needs.{needs}
 use native.Mathlib.Omega.{arith}
-use Rattle.tree.specs.Ways.{adding}
-use Rattle.tree.proofs.Sides.{leaf-fits, saved-as}
+use Rattle.rising.specs.Rises.{adding}
+use Rattle.turning.proofs.Sides.{leaf-fits, saved-as}
 use Rattle.tree.proofs.Starting.{alone-ready, beside-in, beside-mendable, adding-start}
 use Rattle.tree.proofs.insert.Statement.{statement}
 use Rattle.tree.proofs.insert.Tie as tie

@@ -1,7 +1,7 @@
 use borrow.Author.Needs.{needs}
 use native.Mathlib.Omega.{arith}
 use Rattle.tree.proofs.Starting.{short-alone}
-use Rattle.tree.proofs.Finding.{alone-ordered, leaf-in, way-of, first-removed}
+use Rattle.tree.proofs.Found.{alone-ordered, leaf-in, way-of, first-removed}
 use Rattle.tree.proofs.remove_first.Statement.{statement}
 use Rattle.tree.proofs.remove_first.Tie as tie
 

@@ -1,7 +1,7 @@
 use borrow.Author.Needs.{needs}
 use native.Mathlib.Omega.{arith}
-use Rattle.tree.proofs.Setting.{within-alone}
-use Rattle.tree.proofs.Tracing.{partway-head}
+use Rattle.tracing.proofs.Below.{within-alone}
+use Rattle.tracing.proofs.Tracing.{partway-head}
 use Rattle.tree.proofs.set_end.Statement.{statement}
 use Rattle.tree.proofs.set_end.Tie as tie
 

@@ -1,7 +1,7 @@
 use borrow.Author.Needs.{needs}
 use native.Mathlib.Omega.{arith}
-use Rattle.tree.specs.Ways.{ending}
-use Rattle.tree.proofs.Sides.{leaf-fits, saved-as}
+use Rattle.rising.specs.Rises.{ending}
+use Rattle.turning.proofs.Sides.{leaf-fits, saved-as}
 use Rattle.tree.proofs.Starting.{end-in, ending-start}
 use Rattle.tree.proofs.set_end_on.Statement.{statement}
 use Rattle.tree.proofs.set_end_on.Tie as tie

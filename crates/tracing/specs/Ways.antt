@@ -1,0 +1,47 @@
+-- The way from a root down to the leaf that a key leads to, or to the leaf with the least end, as a list of places;
+-- and what noting it asks and promises.
+use mathlib.Core.Path.{_≡_}
+use mathlib.Core.List.{List}
+use Prim.Native.Nat.{ℕ, suc, _≤_, _<_}
+use lib.Dec.{ltb}
+use lib.ListN.{length, getD}
+use Rattle.shape.specs.Tree.{Tree}
+use Rattle.shape.specs.Side.{near}
+use Rattle.shape.specs.Least.{least}
+use Rattle.node.specs.Layout.{nodeAt}
+use Rattle.node.specs.Rep.{Stands}
+use Rattle.node.specs.Paths.{longestWay, Down}
+use Rattle.tracing.specs.Alone.{Alone}
+
+-- from the inner node at w the key leads to the place x
+pub record Leads (m : List ℕ) (k w x : ℕ) : Type 0 where
+  pub inner : nodeAt m w .height ≡ 0 → ⊥
+  pub to : x ≡ near (ltb k (nodeAt m w .split)) (nodeAt m w .left) (nodeAt m w .right)
+
+-- the first d + 1 places of the list are the way of the key from t down to a leaf
+pub record Way (m : List ℕ) (t k d : ℕ) (ws : List ℕ) : Type 0 where
+  pub long : d < length ws
+  pub short : d < longestWay
+  pub first : getD ws 0 0 ≡ t
+  pub leads : (i : ℕ) → i < d → Leads m k (getD ws i 0) (getD ws (suc i) 0)
+  pub last : nodeAt m (getD ws d 0) .height ≡ 0
+
+-- the first d + 1 places are the beginning of the key's way from t
+pub record Partway (m : List ℕ) (t k d : ℕ) (ws : List ℕ) : Type 0 where
+  pub long : longestWay ≤ length ws
+  pub first : getD ws 0 0 ≡ t
+  pub leads : (i : ℕ) → i < d → Leads m k (getD ws i 0) (getD ws (suc i) 0)
+  pub alone : Alone m t
+
+abbrev pub Begins : List ℕ → (k d : ℕ) → List ℕ → Type 0
+Begins m k d ws = (t : ℕ) × Partway m t k d ws
+
+abbrev pub Traces : List ℕ → (k d d′ : ℕ) → (ws ws′ : List ℕ) → Type 0
+Traces m k d d′ ws ws′ = (t : ℕ) → Partway m t k d ws → Way m t k d′ ws′
+
+-- the first d + 1 places of the list go down from t to the leaf with the least end
+pub record First (m : List ℕ) (t d : ℕ) (ws : List ℕ) : Type 0 where
+  pub down : Down m t d ws
+  pub short : d < longestWay
+  pub last : nodeAt m (getD ws d 0) .height ≡ 0
+  pub key : (tr : Tree) → Stands m t tr → nodeAt m (getD ws d 0) .lo ≡ least tr .1

@@ -1,0 +1,31 @@
+-- What the tree's functions ask and promise over a way that is noted: an end set, the way being noted in part, and the leaf at its
+-- end taken out; and the removal of the leaf with the least end.
+use mathlib.Core.List.{List}
+use Prim.Native.Nat.{ℕ, _≤_}
+use Rattle.shape.specs.Tree.{Tree, Ord}
+use Rattle.shape.specs.Least.{least}
+use Rattle.node.specs.Layout.{nodeAt}
+use Rattle.tracing.specs.Alone.{Sole, Alone}
+use Rattle.tracing.specs.Ways.{Way, Partway}
+use Rattle.rising.specs.declared.Cut.{Cut}
+use Rattle.rising.specs.Changes.{Sets, Shrunk, Removes}
+
+-- ---- an end set, the way being noted in part
+abbrev pub SetsOn : List ℕ → (d k e : ℕ) → (m m′ : List ℕ) → Type 0
+SetsOn ws d k e m m′ = (t : ℕ) → Partway m t k d ws → Sets t k e m m′
+
+-- ---- a leaf taken out at the end of the way
+abbrev pub Cuttable : List ℕ → (d k : ℕ) → List ℕ → Type 0
+Cuttable ws d k m = (t : ℕ) × Way m t k d ws × (1 ≤ nodeAt m t .height) × Alone m t
+
+abbrev pub Cuts : List ℕ → (d k : ℕ) → Cut → (m m′ : List ℕ) → Type 0
+Cuts ws d k c m m′ = (t : ℕ) → Way m t k d ws → 1 ≤ nodeAt m t .height → Alone m t → Removes t k c m m′
+
+-- ---- the leaf with the least end removed
+-- the tree's keys rise, too
+abbrev pub Ordered : List ℕ → ℕ → Type 0
+Ordered m t = (tr : Tree) × Sole m t tr × (a : ℕ) × (b : ℕ) × Ord a b tr
+
+-- the leaf that is removed is the one with the least end
+abbrev pub RemovesFirst : (t : ℕ) → Cut → (m m′ : List ℕ) → Type 0
+RemovesFirst t c m m′ = (tr : Tree) → Sole m t tr → (a b : ℕ) → Ord a b tr → Shrunk c (least tr .1) tr m m′
