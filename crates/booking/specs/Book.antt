@@ -1,19 +1,14 @@
 -- What booking promises in memory: of every state that the memory holds, the answer and the state after are those of `act`.
 use mathlib.Core.Path.{_≡_}
 use mathlib.Core.List.{List}
-use mathlib.Core.Bool.{Bool, true, false}
+use mathlib.Core.Bool.{true, false}
 use Prim.Native.Nat.{ℕ}
-use Rattle.rule.specs.Key.{startOf}
-use Rattle.shape.specs.Tree.{size, In}
 use Rattle.rule.specs.Order.{booking}
 use Rattle.rule.specs.Starts.{starts}
-use Rattle.rule.specs.Codes.{tooMany}
 use Rattle.rule.specs.Answer.{seven, numbersOf}
 use Rattle.rule.specs.declared.answer.Answer.{Answer}
 use Rattle.state.specs.State.{State}
-use Rattle.state.specs.Act.{Sought, nowhere, found, Seeking, seek, split, act}
-use Rattle.state.specs.Room.{Room}
-use Rattle.state.specs.Sound.{Sound}
+use Rattle.state.specs.Act.{Sought, nowhere, found, Seeking, seek, act}
 use Rattle.memory.specs.Holds.{Holds, After}
 use Rattle.memory.specs.Steps.{Pointed}
 use Rattle.booking.specs.declared.Taken.{Taken}
@@ -32,23 +27,6 @@ Seeks r h m x mem = (s : State) → Holds mem s → x ≡ takenOf (x .noted) (se
 -- what was taken is where the way noted leads
 abbrev pub Points : (m ws : List ℕ) → Taken → Type 0
 Points m ws x = x .found ≡ true → Pointed m ws (x .noted) (x .key) (x .end)
-
--- a void that may be taken apart: one of a sound link, with places for its pieces
-pub record Splitting (s : State) (k e r f : ℕ) : Type 0 where
-  pub sound : Sound s
-  pub place : ℕ
-  pub inside : In place k e (s .tree)
-  pub room : Room s k e r f
-
-abbrev pub Splittable : (k e r f : ℕ) → List ℕ → Type 0
-Splittable k e r f m = (s : State) × Splitting s k e r f × Holds m s
-
-abbrev pub Splits : (k e r f : ℕ) → (m m′ : List ℕ) → Type 0
-Splits k e r f m m′ = (s : State) → Splitting s k e r f → Holds m s → After m m′ (split s k e r f)
-
--- "the void taken leaves two pieces and the room is full": the rule's test, of the state
-abbrev pub overfull : State → (k e r f : ℕ) → Bool
-overfull s k e r f = tooMany (s .settings) (s .floor) (size (s .tree)) r f (startOf k) e
 
 -- the answer in 01's seven numbers, and the memory after
 pub record Books (r l lines : ℕ) (a : Answer) (m m′ : List ℕ) (s : State) : Type 0 where

@@ -1,4 +1,5 @@
-// Booking on one link: the search over the starts tried, the void taken apart, the answer.
+// Booking on one link: the search over the starts tried, then the answer.
+// The void found is taken apart in the crate taking.
 ghost use mathlib.Core.Path.{_≡_};
 ghost use Prim.Native.Nat.{_+_, _≤_, _<_, _^_};
 ghost use Rattle.rule.specs.Moments.{lastMoment};
@@ -9,8 +10,7 @@ ghost use lib.ListN.{length};
 ghost use Rattle.state.specs.State.{State};
 ghost use Rattle.state.specs.Sound.{Sound};
 ghost use Rattle.memory.specs.Holds.{Holds, Whole};
-ghost use Rattle.memory.specs.Steps.{Pointed};
-ghost use Rattle.booking.specs.Book.{Seeks, Points, Splits, Splittable, overfull, Books};
+ghost use Rattle.booking.specs.Book.{Seeks, Points, Books};
 use numbers::words::get;
 use rule::answer::Answer;
 
@@ -79,29 +79,6 @@ fn seek(mem: &[u8], arrival: u64, hold: u64, permitted: u64, way: &mut [u16]) ->
     }
 }
 
-// The void of the key, which ends at e, gives the time from r up to f: its pieces stay, if they are kept. The way to it is noted.
-fn split(mem: &mut [u8], way: &mut [u16], noted: usize, key: u64, e: u64, r: u64, f: u64)
-    requires { ⌜ Splittable key e r f (now mem) ⌝ }
-    requires { ⌜ (f ≤ lastMoment) × Pointed (now mem) (now way) noted key e ⌝ }
-    ensures { λ _. ⌜ Splits key e r f (now (mem .entry)) (now (mem .exit)) ⌝ }
-{
-    let floor = get(mem, memory::FLOOR);
-    let behind = rule::kept::kept(floor, f, e);
-    let next = rule::key::key(f, rule::key::channel(key));
-    let front = rule::kept::kept(floor, rule::key::start(key), r);
-    if front {
-        memory::shorten(mem, way, noted, key, r);
-        if behind {
-            memory::add(mem, next, e);
-        }
-        return;
-    }
-    if behind {
-        memory::add(mem, next, e);
-    }
-    memory::drop(mem, key);
-}
-
 // A refusal "has 0 in all but code and count".
 fn refusal(code: u64, count: u64) -> Answer
     ensures { λ a. ⌜ numbersOf a ≡ seven (refused code) count ⌝ }
@@ -115,20 +92,6 @@ fn refusal(code: u64, count: u64) -> Answer
         count,
         dropped: 0,
     }
-}
-
-// Whether the void taken leaves two pieces and the room is full.
-fn too_many(mem: &[u8], key: u64, e: u64, r: u64, f: u64) -> bool
-    requires { ⌜ Whole (now mem) ⌝ }
-    ensures { λ b. ⌜ ((s : State) → Holds (now (mem .entry)) s → b ≡ overfull s key e r f) ⌝ }
-{
-    let floor = get(mem, memory::FLOOR);
-    if rule::kept::kept(floor, rule::key::start(key), r) {
-        if rule::kept::kept(floor, f, e) {
-            return get(mem, memory::ROOM) <= get(mem, memory::KEPT);
-        }
-    }
-    false
 }
 
 // Books a burst on a whole link.
@@ -151,10 +114,10 @@ pub fn book(mem: &mut [u8], arrival: u64, burst: u64, permitted: u64) -> Answer
     }
     let start = x.start;
     let free = start + hold;
-    if too_many(mem, x.key, x.end, start, free) {
+    if taking::too_many(mem, x.key, x.end, start, free) {
         return refusal(8, x.count);
     }
-    split(mem, &mut way, x.noted, x.key, x.end, start, free);
+    taking::split(mem, &mut way, x.noted, x.key, x.end, start, free);
     Answer {
         code: 0,
         channel: rule::key::channel(x.key),

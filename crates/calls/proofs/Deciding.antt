@@ -9,7 +9,7 @@ use Rattle.numbers.specs.Words.{word}
 use Rattle.shape.specs.Tree.{size}
 use Rattle.state.specs.State.{State}
 use Rattle.memory.specs.Holds.{Holds, Whole}
-use Rattle.whole.specs.Says.{Says}
+use Rattle.settled.specs.Says.{Says}
 use Rattle.calls.specs.declared.tell.Told.{Told}
 
 pub yes-whole : (m : List ℕ) (b : Bool) → Says (Whole m) b → b ≡ true → Whole m

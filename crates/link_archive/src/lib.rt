@@ -7,7 +7,7 @@ ghost use Rattle.rule.specs.Settings.{longest};
 ghost use Rattle.state.specs.State.{State};
 ghost use Rattle.state.specs.Sound.{Sound};
 ghost use Rattle.memory.specs.Holds.{Holds, Whole};
-ghost use Rattle.whole.specs.Says.{Says};
+ghost use Rattle.settled.specs.Says.{Says};
 ghost use Rattle.booking.specs.Book.{Books};
 ghost use Rattle.sweeping.specs.Swept.{Sweeps};
 use rule::answer::Answer;

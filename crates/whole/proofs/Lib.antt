@@ -1,9 +1,3 @@
-pub mod Saying
-pub mod Surveying
-pub mod Apartness
-pub mod Ordering
-pub mod Planting
 pub mod Threading
 pub mod Counting
-pub mod Settling
 pub mod Wholeness

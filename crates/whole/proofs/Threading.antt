@@ -15,7 +15,7 @@ use Rattle.node.proofs.Reps.{heightOf}
 use Rattle.state.specs.State.{first}
 use Rattle.state.specs.Sound.{among}
 use Rattle.memory.specs.Holds.{spareMark, spareNode, Spares}
-use Rattle.whole.specs.Says.{Says}
+use Rattle.settled.specs.Says.{Says}
 use Rattle.whole.specs.Parts.{Threads, Spared}
 
 -- ---- one node

@@ -19,11 +19,12 @@ use Rattle.state.specs.State.{State, first, places}
 use Rattle.state.specs.Sound.{Sound, mostKey, among, below}
 use Rattle.memory.specs.Header.{header, Heads}
 use Rattle.memory.specs.Holds.{Holds, Whole}
-use Rattle.whole.specs.Settled.{listed, Settled}
-use Rattle.whole.specs.Parts.{Treed, Planted, spareMany, Spared}
+use Rattle.settled.specs.Settled.{listed, Settled}
+use Rattle.survey.specs.Planted.{Treed, Planted}
+use Rattle.whole.specs.Parts.{spareMany, Spared}
 use Rattle.memory.proofs.Parts.{below-is, below-in, padded-at}
 use Rattle.whole.proofs.Counting.{covered}
-use Rattle.whole.proofs.Settling.{length-listed, listed-at, listed-is, get-past}
+use Rattle.settled.proofs.Settling.{length-listed, listed-at, listed-is, get-past}
 use Rattle.whole.proofs.Threading.{sparesAt, length-spares, first-spare, threads-spares, spares-threads, marked, spare-once}
 
 -- ---- from the whole to the parts

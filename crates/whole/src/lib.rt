@@ -1,11 +1,9 @@
-// Whether lent memory holds a whole link, for every content and every length (01, What comes back, code 2).
-// Three parts: the header, the tree, the spare nodes. That no place is used twice follows, and is not checked.
+// Whether lent memory holds a whole link, for every content and every length (01, What comes back, code 2). Three parts: the header
+// (crate settled), the tree (crate survey), the spare nodes. That no place is used twice follows, and is not checked.
 ghost use Rattle.memory.specs.Holds.{Whole};
-ghost use Rattle.whole.specs.Says.{Says};
+ghost use Rattle.settled.specs.Says.{Says};
 
-pub mod settings;
 pub mod spares;
-pub mod survey;
 
 pub fn whole(mem: &[u8]) -> bool
     ensures { λ b. ⌜ Says (Whole (now (mem .entry))) b ⌝ }
@@ -13,7 +11,7 @@ pub fn whole(mem: &[u8]) -> bool
     if mem.len() < node::HEADER_BYTES {
         return false;
     }
-    if !settings::settled(mem) {
+    if !settled::settled(mem) {
         return false;
     }
     if !survey::tree(mem) {

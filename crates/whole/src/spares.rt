@@ -2,8 +2,8 @@
 ghost use mathlib.Core.Path.{_≡_};
 ghost use Rattle.memory.specs.Holds.{spareNode};
 ghost use Rattle.node.specs.declared.Node.{Node};
-ghost use Rattle.whole.specs.Says.{Says};
-ghost use Rattle.whole.specs.Settled.{Settled};
+ghost use Rattle.settled.specs.Says.{Says};
+ghost use Rattle.settled.specs.Settled.{Settled};
 ghost use Rattle.whole.specs.Parts.{Spared};
 use node::Node;
 

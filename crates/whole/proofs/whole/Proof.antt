@@ -1,6 +1,6 @@
 -- `whole::whole`: the three parts are the whole link. Assumes nothing.
 use borrow.Author.Tests.{not-true, not-false}
-use Rattle.whole.proofs.Saying.{says-yes, says-no, says-map}
+use Rattle.settled.proofs.Saying.{says-yes, says-no, says-map}
 use Rattle.whole.proofs.Wholeness.{whole-settled, whole-treed, whole-spared, parts-whole}
 use borrow.Author.Needs.{needs}
 use Rattle.whole.proofs.whole.Statement.{statement}

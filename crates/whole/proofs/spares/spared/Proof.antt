@@ -2,7 +2,7 @@
 use mathlib.Core.Bool.{true, false}
 use native.Mathlib.Omega.{arith}
 use borrow.Author.Tests.{not-true, not-false}
-use Rattle.whole.proofs.Saying.{says-yes, says-no}
+use Rattle.settled.proofs.Saying.{says-yes, says-no}
 use Rattle.whole.proofs.Threading.{Way, way-start, way-out, way-not, way-more, none-is, is-none, read-spares}
 use Rattle.whole.proofs.spares.spared.Statement.{statement}
 use Rattle.whole.proofs.spares.spared.Tie as tie

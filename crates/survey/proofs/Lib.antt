@@ -1,0 +1,4 @@
+pub mod Surveying
+pub mod Apartness
+pub mod Ordering
+pub mod Planting

@@ -1,0 +1,212 @@
+// The walk over a tree that may be spoiled: a survey of its nodes, from left to right, of any memory whatever (specs/Survey.antt, specs/Planted.antt).
+// A budget of visits falls by one at each node and a child is lower than its parent, so that the survey ends, and soon, in a
+// hostile memory too: a whole tree of m leaves has 2 * m - 1 nodes, and no more are looked at.
+ghost use mathlib.Core.Path.{_≡_};
+ghost use Prim.Native.Nat.{ℕ, _+_, _*_, _≤_, _<_};
+ghost use lib.ListN.{length, getD};
+ghost use Rattle.rule.specs.Moments.{lastMoment, openEnd};
+ghost use Rattle.state.specs.Sound.{Lawful};
+ghost use Rattle.settled.specs.Says.{Says};
+ghost use Rattle.settled.specs.Settled.{Settled};
+ghost use Rattle.survey.specs.Survey.{Single, Joined, Leaf, Surveyed, Reach};
+ghost use Rattle.survey.specs.Planted.{Planted};
+use node::Node;
+use numbers::pairs::larger;
+use numbers::pairs::smaller;
+use rule::moments::OPEN_END;
+
+// What a survey comes to: one more than the last key (0: no such tree), and what is left of the budget of visits.
+pub struct Progress {
+    pub next: u64,
+    pub left: u64,
+}
+
+// Whether n is a leaf's node, but for its key and its end.
+fn single(n: Node) -> bool
+    ensures { λ b. ⌜ Says (Single n) b ⌝ }
+{
+    if n.height != 0 {
+        return false;
+    }
+    if n.split != n.lo {
+        return false;
+    }
+    if n.low != n.top {
+        return false;
+    }
+    if n.left != 0 {
+        return false;
+    }
+    if n.right != 0 {
+        return false;
+    }
+    true
+}
+
+// Whether n sums up x and y, and their heights are balanced.
+fn joined(n: Node, x: Node, y: Node) -> bool
+    requires { ⌜ (x .height < 18446744073709551615) × (y .height < 18446744073709551615) ⌝ }
+    ensures { λ b. ⌜ Says (Joined n x y) b ⌝ }
+{
+    if n.height != larger(x.height, y.height) + 1 {
+        return false;
+    }
+    if n.lo != x.lo {
+        return false;
+    }
+    if n.split != y.lo {
+        return false;
+    }
+    if n.top != larger(x.top, y.top) {
+        return false;
+    }
+    if n.low != smaller(x.low, y.low) {
+        return false;
+    }
+    if y.height + 1 < x.height {
+        return false;
+    }
+    if x.height + 1 < y.height {
+        return false;
+    }
+    true
+}
+
+// Whether a link may have a void with that key and end.
+fn lawful(channels: u64, floor: u64, key: u64, end: u64) -> bool
+    requires { ⌜ floor ≤ lastMoment ⌝ }
+    ensures { λ b. ⌜ Says (Lawful channels floor key end) b ⌝ }
+{
+    if channels <= rule::key::channel(key) {
+        return false;
+    }
+    if end <= rule::key::start(key) {
+        return false;
+    }
+    if OPEN_END < end {
+        return false;
+    }
+    rule::kept::stays(floor, end)
+}
+
+// Whether n is a leaf that comes next; its end is then its channel's last.
+fn leaf(ends: &mut [u64], channels: u64, floor: u64, after: u64, n: Node) -> bool
+    requires { ⌜ (channels ≤ length (now ends)) × (floor ≤ lastMoment) ⌝ }
+    ensures { λ b. ⌜ Leaf channels floor after (now (ends .entry)) (now (ends .exit)) n b ⌝ }
+{
+    if !single(n) {
+        return false;
+    }
+    if n.lo < after {
+        return false;
+    }
+    if !lawful(channels, floor, n.lo, n.top) {
+        return false;
+    }
+    let channel = rule::key::channel(n.lo) as usize;
+    if rule::key::start(n.lo) < ends[channel] {
+        return false;
+    }
+    ends[channel] = n.top + 1;
+    true
+}
+
+// Surveys the tree at place p, of a height below the limit, with keys from `after` on.
+fn survey(
+    mem: &[u8],
+    ends: &mut [u64],
+    places: usize,
+    channels: u64,
+    floor: u64,
+    p: usize,
+    limit: u64,
+    after: u64,
+    budget: u64,
+) -> Progress
+    requires { ⌜ Reach (now mem) (now ends) places channels floor ⌝ }
+    ensures { λ s. ⌜ Surveyed (now (mem .entry)) places channels floor (now (ends .entry)) (now (ends .exit)) p limit after budget s ⌝ }
+{
+    if budget == 0 {
+        return Progress { next: 0, left: 0 };
+    }
+    let left = budget - 1;
+    if places <= p {
+        return Progress { next: 0, left };
+    }
+    let n = node::load(mem, p);
+    let h = n.height;
+    if limit <= h {
+        return Progress { next: 0, left };
+    }
+    if h == 0 {
+        if !leaf(ends, channels, floor, after, n) {
+            return Progress { next: 0, left };
+        }
+        let next = n.lo + 1;
+        return Progress { next, left };
+    }
+    let l = n.left as usize;
+    let r = n.right as usize;
+    let a = survey(mem, ends, places, channels, floor, l, h, after, left);
+    if a.next == 0 {
+        return a;
+    }
+    let b = survey(mem, ends, places, channels, floor, r, h, a.next, a.left);
+    if b.next == 0 {
+        return b;
+    }
+    if !joined(n, node::load(mem, l), node::load(mem, r)) {
+        let left = b.left;
+        return Progress { next: 0, left };
+    }
+    b
+}
+
+// Whether the last void of each channel has no end.
+fn open_ends(ends: &[u64], channels: usize) -> bool
+    requires { ⌜ channels ≤ length (now ends) ⌝ }
+    ensures { λ b. ⌜ Says ((c : ℕ) → c < channels → getD (now (ends .entry)) c 0 ≡ openEnd + 1) b ⌝ }
+{
+    let mut c: usize = 0;
+    while c < channels {
+        if ends[c] != OPEN_END + 1 {
+            return false;
+        }
+        c += 1;
+    }
+    true
+}
+
+// Whether the tree that the header names is a whole link's.
+pub fn tree(mem: &[u8]) -> bool
+    requires { ⌜ Settled (now mem) ⌝ }
+    ensures { λ b. ⌜ Says (Planted (now (mem .entry))) b ⌝ }
+{
+    let room = numbers::words::get(mem, memory::ROOM);
+    let channels = numbers::words::get(mem, memory::CHANNELS);
+    let floor = numbers::words::get(mem, memory::FLOOR);
+    let root = numbers::words::get(mem, memory::ROOT) as usize;
+    let kept = numbers::words::get(mem, memory::KEPT);
+    let places = (2 * room + 1) as usize;
+    let limit = rule::height::allowed(kept) + 1;
+    // one for each channel that a link may have
+    let mut ends = [0u64; rule::bounds::MOST_CHANNELS as usize];
+    let s = survey(
+        mem,
+        &mut ends,
+        places,
+        channels,
+        floor,
+        root,
+        limit,
+        0,
+        2 * kept - 1,
+    );
+    if s.next == 0 {
+        return false;
+    }
+    if s.left != 0 {
+        return false;
+    }
+    open_ends(&ends, channels as usize)
+}
