@@ -8,7 +8,6 @@ pub mod Right
 pub mod Gaps
 pub mod Plain
 pub mod Visits
-pub mod Visited
 pub mod InFull
 -- The laws that they rest on.
 pub mod RecordLaws

@@ -13,8 +13,8 @@ use Rattle.numbers.specs.Digits.{goesOn, digits, field}
 use Rattle.numbers.proofs.DigitLaws.{grows}
 use Rattle.rule.specs.Moments.{lastMoment}
 use Rattle.rule.specs.Order.{Order, booking, sweep}
-use Rattle.order.specs.Records.{Reading, unread, opening, order, Mark, OL, OB, OC, OS, unknown, mark, whole, linesOf, openingOf, bookingOf, compactOf, sweepOf, byMark, reading, usedBy}
-use Rattle.order.specs.Kinds.{Kind, kind}
+use Rattle.order.specs.Records.{Reading, unread, opening, order, whole, openingOf, bookingOf, compactOf, sweepOf, byMark, reading, usedBy}
+use Rattle.order.specs.Kinds.{Kind, by-mark, kind}
 use Rattle.order.proofs.Alone.{inside}
 use Rattle.node.proofs.Same.{Bytes}
 use Rattle.state.specs.Range.{InRange}
@@ -56,17 +56,17 @@ Ranged (order n o) = InRange o
 whole-ranged : (n : ℕ) (bytes : List ℕ) (x : Reading) → Ranged x → Ranged (whole n bytes x)
 whole-ranged n bytes x r = elim (case-le n (length bytes)) [ inl y ↦ rw (y .1) r | inr y ↦ rw (y .1) tt ]
 
-mark-ranged : (m : Mark) (bytes : List ℕ) → Bytes bytes → Ranged (byMark m bytes)
-unfolding byMark openingOf bookingOf compactOf sweepOf
-mark-ranged OL bytes h = whole-ranged (14 + 4 * linesOf bytes) bytes _ (moment-field 8 bytes h)
-mark-ranged OB bytes h = whole-ranged 14 bytes (order 14 (booking (field 2 6 bytes) (field 8 4 bytes) (field 12 2 bytes))) tt
-mark-ranged OC bytes h = whole-ranged 10 bytes (order 10 (booking (field 2 6 bytes) (field 8 2 bytes) 0)) tt
-mark-ranged OS bytes h = whole-ranged 8 bytes (order 8 (sweep (field 2 6 bytes))) (moment-field 2 bytes h)
-mark-ranged unknown bytes h = tt
+mark-ranged : (m : ℕ) (bytes : List ℕ) → Bytes bytes → Ranged (byMark m bytes)
+unfolding openingOf bookingOf compactOf sweepOf
+mark-ranged m bytes h =
+    by-mark (λ f. Ranged (f bytes)) m (whole-ranged (14 + 4 * field 3 1 bytes) bytes _ (moment-field 8 bytes h))
+    (whole-ranged 14 bytes (order 14 (booking (field 2 6 bytes) (field 8 4 bytes) (field 12 2 bytes))) tt)
+    (whole-ranged 10 bytes (order 10 (booking (field 2 6 bytes) (field 8 2 bytes) 0)) tt)
+    (whole-ranged 8 bytes (order 8 (sweep (field 2 6 bytes))) (moment-field 2 bytes h)) tt
 
 ranged : (bytes : List ℕ) → Bytes bytes → Ranged (reading bytes)
 unfolding reading
-ranged bytes h = whole-ranged 2 bytes (byMark (mark (field 0 2 bytes)) bytes) (mark-ranged (mark (field 0 2 bytes)) bytes h)
+ranged bytes h = whole-ranged 2 bytes (byMark (field 0 2 bytes) bytes) (mark-ranged (field 0 2 bytes) bytes h)
 
 -- with what the reader's own laws say: no code but 11, and an order has bytes and lies inside
 abbrev pub Fair : List ℕ → Reading → Type 0

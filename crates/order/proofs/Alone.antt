@@ -10,7 +10,8 @@ use Rattle.numbers.specs.Digits.{field}
 use Rattle.numbers.proofs.DigitLaws.{field-front}
 use Rattle.rule.specs.Order.{booking, sweep}
 use Rattle.order.specs.declared.Record.{Record}
-use Rattle.order.specs.Records.{Reading, unread, opening, order, Mark, OL, OB, OC, OS, unknown, mark, whole, delaysAt, linesOf, openingOf, bookingOf, compactOf, sweepOf, byMark, reading, usedBy, openingOnly}
+use Rattle.order.specs.Records.{Reading, unread, opening, order, whole, delaysAt, openingOf, bookingOf, compactOf, sweepOf, byMark, reading, usedBy, openingOnly}
+use Rattle.order.specs.Kinds.{by-mark}
 use Rattle.order.specs.Read.{meant, Narrow, Reads, ReadsOpening}
 
 -- two byte strings with the same first n bytes: the second is as long as those
@@ -41,41 +42,46 @@ delays-front i (suc n) k s t h e =
     let b = delays-front (i + 4) n k s t (omega arith) e in
     rw (a, b)
 
--- a record with this mark
-pub record Alone (m : Mark) (s t : List ℕ) : Type 0 where
-  pub inside : usedBy (byMark m s) ≤ length s
-  pub long : 1 ≤ usedBy (byMark m s) → 8 ≤ usedBy (byMark m s)
-  pub alike : 1 ≤ usedBy (byMark m s) → take (usedBy (byMark m s)) s ≡ take (usedBy (byMark m s)) t → byMark m t ≡ byMark m s
+-- what is read by f lies inside its bytes, and depends on them alone
+pub record Alone (f : List ℕ → Reading) (s t : List ℕ) : Type 0 where
+  pub inside : usedBy (f s) ≤ length s
+  pub long : 1 ≤ usedBy (f s) → 8 ≤ usedBy (f s)
+  pub alike : 1 ≤ usedBy (f s) → take (usedBy (f s)) s ≡ take (usedBy (f s)) t → f t ≡ f s
 
 -- a record of n bytes, which the second byte string says too if its first n bytes are the same
-fixed : (m : Mark) (n : ℕ) (s t : List ℕ) (x : Reading) → usedBy x ≡ n → 8 ≤ n → byMark m s ≡ whole n s x → (take n s ≡ take n t → byMark m t ≡ whole n t x) → Alone m s t
-fixed m n s t x u l p q = record {
+fixed : (f : List ℕ → Reading) (n : ℕ) (s t : List ℕ) (x : Reading) → usedBy x ≡ n → 8 ≤ n → f s ≡ whole n s x → (take n s ≡ take n t → f t ≡ whole n t x) → Alone f s t
+fixed f n s t x u l p q = record {
   inside = rw p (whole-inside n s t x u);
   long = rw p (λ h. omega (arith, whole-used n s t x u h));
   alike = rw p (λ h. rw (whole-used n s t x u h) (λ e. q e ∙ whole-alone n s t x u h e));
 }
 
-by-mark-alone : (m : Mark) (s t : List ℕ) → Alone m s t
-unfolding byMark openingOf bookingOf compactOf sweepOf
-by-mark-alone OL s t =
-    fixed OL (14 + 4 * linesOf s) s t _ refl (omega arith) refl
-    (λ e. let n : linesOf t ≡ linesOf s = sym (field-front 3 1 (14 + 4 * linesOf s) s t (omega arith) e) in
+opening-fixed : (s t : List ℕ) → Alone openingOf s t
+unfolding openingOf
+opening-fixed s t =
+    fixed openingOf (14 + 4 * field 3 1 s) s t _ refl (omega arith) refl
+    (λ e. let n : field 3 1 t ≡ field 3 1 s = sym (field-front 3 1 (14 + 4 * field 3 1 s) s t (omega arith) e) in
     rw (
       n,
-      ← field-front 2 1 (14 + 4 * linesOf s) s t (omega arith) e,
-      ← field-front 4 4 (14 + 4 * linesOf s) s t (omega arith) e,
-      ← field-front 8 6 (14 + 4 * linesOf s) s t (omega arith) e,
-      delays-front 14 (linesOf s) (14 + 4 * linesOf s) s t (omega arith) e,
+      ← field-front 2 1 (14 + 4 * field 3 1 s) s t (omega arith) e,
+      ← field-front 4 4 (14 + 4 * field 3 1 s) s t (omega arith) e,
+      ← field-front 8 6 (14 + 4 * field 3 1 s) s t (omega arith) e,
+      delays-front 14 (field 3 1 s) (14 + 4 * field 3 1 s) s t (omega arith) e,
     ))
-by-mark-alone OB s t = fixed OB 14 s t _ refl (omega arith) refl (λ e. rw (← field-front 2 6 14 s t (omega arith) e, ← field-front 8 4 14 s t (omega arith) e, ← field-front 12 2 14 s t (omega arith) e))
-by-mark-alone OC s t = fixed OC 10 s t _ refl (omega arith) refl (λ e. rw (← field-front 2 6 10 s t (omega arith) e, ← field-front 8 2 10 s t (omega arith) e))
-by-mark-alone OS s t = fixed OS 8 s t _ refl (omega arith) refl (λ e. rw (← field-front 2 6 8 s t (omega arith) e))
-by-mark-alone unknown s t = record { inside = omega arith; long = λ h. absurd (omega arith); alike = λ h. absurd (omega arith) }
+
+by-mark-alone : (m : ℕ) (s t : List ℕ) → Alone (byMark m) s t
+unfolding bookingOf compactOf sweepOf
+by-mark-alone m s t =
+    by-mark (λ f. Alone f s t) m (opening-fixed s t)
+    (fixed bookingOf 14 s t _ refl (omega arith) refl (λ e. rw (← field-front 2 6 14 s t (omega arith) e, ← field-front 8 4 14 s t (omega arith) e, ← field-front 12 2 14 s t (omega arith) e)))
+    (fixed compactOf 10 s t _ refl (omega arith) refl (λ e. rw (← field-front 2 6 10 s t (omega arith) e, ← field-front 8 2 10 s t (omega arith) e)))
+    (fixed sweepOf 8 s t _ refl (omega arith) refl (λ e. rw (← field-front 2 6 8 s t (omega arith) e)))
+    (record { inside = omega arith; long = λ h. absurd (omega arith); alike = λ h. absurd (omega arith) })
 
 -- ---- any record
 pub inside : (s : List ℕ) → usedBy (reading s) ≤ length s
 unfolding reading
-inside s = elim (case-le 2 (length s)) [ inl a ↦ rw (a .1) (by-mark-alone (mark (field 0 2 s)) s s .inside) | inr a ↦ rw (a .1) (omega arith) ]
+inside s = elim (case-le 2 (length s)) [ inl a ↦ rw (a .1) (by-mark-alone (field 0 2 s) s s .inside) | inr a ↦ rw (a .1) (omega arith) ]
 
 alone : (s t : List ℕ) → 1 ≤ usedBy (reading s) → take (usedBy (reading s)) s ≡ take (usedBy (reading s)) t → reading t ≡ reading s
 unfolding reading
@@ -84,12 +90,12 @@ alone s t = elim (case-le 2 (length s)) [
   | inr a ↦ rw (a .1) (λ h. absurd (omega arith))
 ]
   where
-    go : 1 ≤ usedBy (byMark (mark (field 0 2 s)) s) → take (usedBy (byMark (mark (field 0 2 s)) s)) s ≡ take (usedBy (byMark (mark (field 0 2 s)) s)) t
-        → whole 2 t (byMark (mark (field 0 2 t)) t) ≡ byMark (mark (field 0 2 s)) s
+    go : 1 ≤ usedBy (byMark (field 0 2 s) s) → take (usedBy (byMark (field 0 2 s) s)) s ≡ take (usedBy (byMark (field 0 2 s) s)) t
+        → whole 2 t (byMark (field 0 2 t) t) ≡ byMark (field 0 2 s) s
     go h e =
-        let A = by-mark-alone (mark (field 0 2 s)) s t in
-        let f = field-front 0 2 (usedBy (byMark (mark (field 0 2 s)) s)) s t (omega (arith, A .long h)) e in
-        let l = front-length (usedBy (byMark (mark (field 0 2 s)) s)) s t e (A .inside) in
+        let A = by-mark-alone (field 0 2 s) s t in
+        let f = field-front 0 2 (usedBy (byMark (field 0 2 s) s)) s t (omega (arith, A .long h)) e in
+        let l = front-length (usedBy (byMark (field 0 2 s) s)) s t e (A .inside) in
         elim (case-le 2 (length t)) [ inl b ↦ rw (b .1, ← f) (A .alike h e) | inr b ↦ absurd (omega (arith, A .long h)) ]
 
 -- an answer that says what is read

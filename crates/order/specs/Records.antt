@@ -22,13 +22,6 @@ pub data Reading : Type 0 where
   opening : (used : ℕ) → Opening → Reading
   order : (used : ℕ) → Order → Reading
 
--- "Each record begins with a two-byte mark."
-pub data Mark : Type 0 where
-  OL OB OC OS unknown : Mark
-
-abbrev pub mark : ℕ → Mark
-mark m = pick (eqb m 0x4F4C) OL (pick (eqb m 0x4F42) OB (pick (eqb m 0x4F43) OC (pick (eqb m 0x4F53) OS unknown)))
-
 -- code 11: "unknown mark, .. record cut short, or no byte at all": a record of n bytes must be there whole
 abbrev pub whole : (n : ℕ) → List ℕ → Reading → Reading
 whole n bytes x = pick (leb n (length bytes)) x (unread 11)
@@ -39,13 +32,10 @@ delaysAt i zero bytes = []
 delaysAt i (suc n) bytes = field i 4 bytes ∷ delaysAt (i + 4) n bytes
 
 -- the number of lines is the opening's second byte after the mark, and its length follows from it
-abbrev pub linesOf : List ℕ → ℕ
-linesOf bytes = field 3 1 bytes
-
 unfoldable pub openingOf : List ℕ → Reading
 openingOf bytes =
-    whole (14 + 4 * linesOf bytes) bytes (opening (14 + 4 * linesOf bytes)
-    (record { channels = field 2 1 bytes; delays = delaysAt 14 (linesOf bytes) bytes; leap = field 4 4 bytes; floor = field 8 6 bytes }))
+    whole (14 + 4 * field 3 1 bytes) bytes (opening (14 + 4 * field 3 1 bytes)
+    (record { channels = field 2 1 bytes; delays = delaysAt 14 (field 3 1 bytes) bytes; leap = field 4 4 bytes; floor = field 8 6 bytes }))
 
 -- "arrival 6, length 4, permitted lines 2"
 unfoldable pub bookingOf : List ℕ → Reading
@@ -59,16 +49,13 @@ compactOf bytes = whole 10 bytes (order 10 (booking (field 2 6 bytes) (field 8 2
 unfoldable pub sweepOf : List ℕ → Reading
 sweepOf bytes = whole 8 bytes (order 8 (sweep (field 2 6 bytes)))
 
-unfoldable pub byMark : Mark → List ℕ → Reading
-byMark OL bytes = openingOf bytes
-byMark OB bytes = bookingOf bytes
-byMark OC bytes = compactOf bytes
-byMark OS bytes = sweepOf bytes
-byMark unknown bytes = unread 11
+-- "Each record begins with a two-byte mark": OL, OB, OC or OS
+unfoldable pub byMark : (mark : ℕ) → List ℕ → Reading
+byMark m bytes = pick (eqb m 0x4F4C) (openingOf bytes) (pick (eqb m 0x4F42) (bookingOf bytes) (pick (eqb m 0x4F43) (compactOf bytes) (pick (eqb m 0x4F53) (sweepOf bytes) (unread 11))))
 
 -- what the record at the start of the bytes says
 unfoldable pub reading : List ℕ → Reading
-reading bytes = whole 2 bytes (byMark (mark (field 0 2 bytes)) bytes)
+reading bytes = whole 2 bytes (byMark (field 0 2 bytes) bytes)
 
 -- "Bytes used are the record's length, and 0 under .. 11"
 abbrev pub usedBy : Reading → ℕ

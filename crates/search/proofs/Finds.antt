@@ -10,8 +10,8 @@ use lib.ListN.{length}
 use Rattle.numbers.specs.Case.{pick, case-le}
 use Rattle.rule.specs.Fit.{fits}
 use Rattle.rule.specs.Key.{startOf}
-use Rattle.shape.specs.Tree.{Tree, leaf, node, top}
-use Rattle.shape.specs.Visits.{Out, none, some, earliest, path, passed, reached, fitting, Deepest, unmarked, marked, deepest, descended, bottom, published}
+use Rattle.shape.specs.Tree.{Tree, leaf, node, lo, top}
+use Rattle.shape.specs.Visits.{Out, none, some, path, passed, reached, fitting, Deepest, unmarked, marked, deepest, descended, bottom, published}
 use Rattle.shape.specs.Walk.{mark-lower}
 use Rattle.shape.specs.SearchLaws.{search-visits}
 use Rattle.node.specs.declared.Node.{Node}
@@ -26,7 +26,7 @@ use Rattle.search.specs.Search.{Descendable, Descended, Marks, Walked, f
 pub rep-reached : (m : List ℕ) (r : ℕ) (t : Tree) → Rep m t → Rep m (reached r t)
 unfolding Rep
 rep-reached m r (leaf p k e) h = h
-rep-reached m r (node p x y) h = elim (case-le (earliest y) r) [ inl z ↦ rw (z .1) (rep-reached m r y (h .3)) | inr z ↦ rw (z .1) (rep-reached m r x (h .2)) ]
+rep-reached m r (node p x y) h = elim (case-le (startOf (lo y)) r) [ inl z ↦ rw (z .1) (rep-reached m r y (h .3)) | inr z ↦ rw (z .1) (rep-reached m r x (h .2)) ]
 
 abbrev Landed : List ℕ → Out → Type 0
 Landed m none = Unit {0}

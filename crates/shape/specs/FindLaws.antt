@@ -11,7 +11,7 @@ use Rattle.rule.specs.Fit.{Fits}
 use Rattle.rule.specs.Key.{startOf}
 use Rattle.shape.specs.Tree.{Tree, leaf, node, height, lo, top, Ord, In, All}
 use Rattle.shape.specs.TreeLaws.{all-map, in-ord, ord-all, top-all}
-use Rattle.shape.specs.Visits.{Out, none, some, Result, earliest, path, passed, reached, fitting, Deepest, unmarked, marked, deeper, deepest, descended, bottom, descent, published}
+use Rattle.shape.specs.Visits.{Out, none, some, Result, path, passed, reached, fitting, Deepest, unmarked, marked, deeper, deepest, descended, bottom, descent, published}
 use Rattle.shape.specs.Search.{Hit, last, after, find}
 
 -- ---- what is found is right
@@ -39,11 +39,11 @@ Right r f t none = All (λ p k e. ¬ (Fits (startOf k) e r f)) t
 Right r f t (some p k e) = In p k e t × Fits (startOf k) e r f × All (λ p′ j g. Fits (startOf j) g r f → j ≤ k) t
 
 module _ (a b r f p : ℕ) (x y : Tree) (o : Ord a b (node p x y)) where
-  right-of-left : r < earliest y → (u : Out) → Right r f x u → Right r f (node p x y) u
+  right-of-left : r < startOf (lo y) → (u : Out) → Right r f x u → Right r f (node p x y) u
   right-of-left h none i = (i, all-map (λ p k e j. omega arith) y (ord-all (lo y) b y (o .1)))
   right-of-left h (some _ k _) i = (inl (i .0), i .1, (i .2, all-map (λ p k e j. omega arith) y (ord-all (lo y) b y (o .1))))
 
-  right-of-right : earliest y ≤ r → (u : Out) (n : ℕ) → Right r f y u → Right r f (node p x y) ((after (leb f (top x)) (last f x) u n) .out)
+  right-of-right : startOf (lo y) ≤ r → (u : Out) (n : ℕ) → Right r f y u → Right r f (node p x y) ((after (leb f (top x)) (last f x) u n) .out)
   right-of-right h (some _ k _) n i =
       let from : lo y ≤ k = in-ord (lo y) b y (o .1) _ _ _ (i .0) .0 in
       (inr (i .0), i .1, (all-map (λ p k e j. omega arith) x (ord-all a (lo y) x (o .0)), i .2))
@@ -62,7 +62,7 @@ find-right a b r f (leaf p k e) o = elim (case-le (startOf k) r) [
   ]
   | inr y ↦ rw (y .1) (omega arith)
 ]
-find-right a b r f (node p x y) o = elim (case-le (earliest y) r) [
+find-right a b r f (node p x y) o = elim (case-le (startOf (lo y)) r) [
   | inl z ↦ rw (z .1) (right-of-right a b r f p x y o (z .0) ((find r f y) .out) ((find r f y) .visits) (find-right (lo y) b r f y (o .1)))
   | inr z ↦ rw (z .1) (right-of-left a b r f p x y o (z .0) ((find r f x) .out) (find-right a (lo y) r f x (o .0)))
 ]
@@ -94,7 +94,7 @@ find-cost r f (leaf p k e) = go (fitting r f (leaf p k e))
     go : (u : Out) → Costs 0 u 1
     go none = omega arith
     go (some p k e) = omega arith
-find-cost r f (node p x y) = elim (case-le (earliest y) r) [
+find-cost r f (node p x y) = elim (case-le (startOf (lo y)) r) [
   | inl z ↦ rw (z .1) (after-cost f _ x y ((find r f y) .out) ((find r f y) .visits) (omega arith) (omega arith) (find-cost r f y))
   | inr z ↦ rw (z .1) (more-cost _ (height x) ((find r f x) .out) ((find r f x) .visits) (omega arith) (find-cost r f x))
 ]
@@ -137,7 +137,7 @@ module _ (f : ℕ) where
     | inl y ↦ elim (case-le f e) [ inl z ↦ rw (y .1, z .1) (refl, omega arith) | inr z ↦ rw (y .1, z .1) (refl, omega arith) ]
     | inr y ↦ rw (y .1) (refl, omega arith)
   ]
-  published-find r (node p x y) = elim (case-le (earliest y) r) [
+  published-find r (node p x y) = elim (case-le (startOf (lo y)) r) [
     | inl z ↦ let Y = published-find r y in
         let J = after-is (fitting r f (reached r y)) (deepest f (passed r y)) x (length (path r y)) (length (passed r y))
         (find r f y) (Y .0) (Y .1) in

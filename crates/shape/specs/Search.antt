@@ -4,8 +4,9 @@ use mathlib.Core.Bool.{Bool}
 use Prim.Native.Nat.{ℕ, _+_}
 use lib.Dec.{leb}
 use Rattle.numbers.specs.Case.{pick}
-use Rattle.shape.specs.Tree.{Tree, leaf, node, top}
-use Rattle.shape.specs.Visits.{Out, none, some, Result, earliest, fitting}
+use Rattle.rule.specs.Key.{startOf}
+use Rattle.shape.specs.Tree.{Tree, leaf, node, lo, top}
+use Rattle.shape.specs.Visits.{Out, none, some, Result, fitting}
 
 -- a leaf, and the visits on the way to it
 pub record Hit : Type 0 where
@@ -30,6 +31,6 @@ after b h none n = pick b (record { out = some (h .place) (h .key) (h .end); vis
 abbrev pub find : (r f : ℕ) → Tree → Result
 find r f (leaf p k e) = record { out = fitting r f (leaf p k e); visits = 1 }
 find r f (node p x y) =
-    pick (leb (earliest y) r)
+    pick (leb (startOf (lo y)) r)
     (after (leb f (top x)) (last f x) ((find r f y) .out) ((find r f y) .visits))
     (record { out = (find r f x) .out; visits = (find r f x) .visits + 1 })

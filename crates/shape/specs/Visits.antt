@@ -19,25 +19,21 @@ pub record Result : Type 0 where
   pub out : Out
   pub visits : ℕ
 
--- the earliest start below a node
-abbrev pub earliest : Tree → ℕ
-earliest t = startOf (lo t)
-
 -- A: "the nodes from root to a leaf, the root and leaf included, going right exactly if the node's earliest right start
--- is at or before r"
+-- is at or before r": that of the right child y is startOf (lo y)
 abbrev pub path : (r : ℕ) → Tree → List Tree
 path r (leaf p k e) = leaf p k e ∷ []
-path r (node p x y) = node p x y ∷ pick (leb (earliest y) r) (path r y) (path r x)
+path r (node p x y) = node p x y ∷ pick (leb (startOf (lo y)) r) (path r y) (path r x)
 
 -- B: "one left child for each right turn", from the root down
 abbrev pub passed : (r : ℕ) → Tree → List Tree
 passed r (leaf p k e) = []
-passed r (node p x y) = pick (leb (earliest y) r) (x ∷ passed r y) (passed r x)
+passed r (node p x y) = pick (leb (startOf (lo y)) r) (x ∷ passed r y) (passed r x)
 
 -- the leaf reached: where the path ends
 abbrev pub reached : (r : ℕ) → Tree → Tree
 reached r (leaf p k e) = leaf p k e
-reached r (node p x y) = pick (leb (earliest y) r) (reached r y) (reached r x)
+reached r (node p x y) = pick (leb (startOf (lo y)) r) (reached r y) (reached r x)
 
 -- "the leaf reached fits"
 abbrev pub fitting : (r f : ℕ) → Tree → Out

@@ -9,8 +9,9 @@ use borrow.Author.Tests.{le-leb, lt-leb}
 use lib.Dec.{leb}
 use lib.ListN.{length}
 use Rattle.numbers.specs.Case.{pick, case-le}
-use Rattle.shape.specs.Tree.{Tree, leaf, node, height, top}
-use Rattle.shape.specs.Visits.{earliest, path, passed, reached, Deepest, unmarked, marked, deeper, deepest}
+use Rattle.rule.specs.Key.{startOf}
+use Rattle.shape.specs.Tree.{Tree, leaf, node, height, lo, top}
+use Rattle.shape.specs.Visits.{path, passed, reached, Deepest, unmarked, marked, deeper, deepest}
 
 -- the mark below, and where there is none the mark above
 abbrev pub lower : Deepest → Deepest → Deepest
@@ -37,18 +38,18 @@ module _ (r f : ℕ) (t : Tree) where
   way-root = record { leads = refl; marks = lower-none (deepest f (passed r t)); counts = omega arith }
 
   module _ (p : ℕ) (x y : Tree) (m : Deepest) (n : ℕ) (w : OnWay r f t (node p x y) m n) where
-    pub way-right : earliest y ≤ r → OnWay r f t y (pick (leb f (top x)) (marked x) m) (n + 2)
+    pub way-right : startOf (lo y) ≤ r → OnWay r f t y (pick (leb f (top x)) (marked x) m) (n + 2)
     way-right h =
-        let q = le-leb (earliest y) r h in
+        let q = le-leb (startOf (lo y)) r h in
         record {
           leads = rw q at (w .leads);
           marks = lower-deeper (deepest f (passed r y)) m (leb f (top x)) x ∙ (rw q at (w .marks));
           counts = let c = rw q at (w .counts) in omega arith;
         }
 
-    pub way-left : r < earliest y → OnWay r f t x m (n + 1)
+    pub way-left : r < startOf (lo y) → OnWay r f t x m (n + 1)
     way-left h =
-        let q = lt-leb (earliest y) r h in
+        let q = lt-leb (startOf (lo y)) r h in
         record { leads = rw q at (w .leads); marks = rw q at (w .marks); counts = let c = rw q at (w .counts) in omega arith }
 
 -- ---- a mark is lower than the tree
@@ -67,7 +68,7 @@ under-more g h (marked y) i u = omega arith
 
 mark-under : (r f : ℕ) (t : Tree) → Under (height t) (deepest f (passed r t))
 mark-under r f (leaf p k e) = tt
-mark-under r f (node p x y) = elim (case-le (earliest y) r) [
+mark-under r f (node p x y) = elim (case-le (startOf (lo y)) r) [
   | inl z ↦ rw (z .1) (under-deeper (height y) _ (deepest f (passed r y)) (leb f (top x)) x (omega arith) (omega arith) (mark-under r f y))
   | inr z ↦ rw (z .1) (under-more (height x) _ (deepest f (passed r x)) (omega arith) (mark-under r f x))
 ]

@@ -5,7 +5,8 @@ use Prim.Native.Nat.{ℕ, _+_, _*_, _<_}
 use native.Mathlib.Omega.{arith}
 use lib.ListN.{length}
 use borrow.Author.Tests.{lt-leb, le-leb}
-use Rattle.order.specs.Records.{unread, linesOf, openingOf}
+use Rattle.numbers.specs.Digits.{field}
+use Rattle.order.specs.Records.{unread, openingOf}
 use borrow.Author.Needs.{needs}
 use Rattle.order.proofs.opening.Statement.{statement}
 use Rattle.order.proofs.opening.Tie as tie
@@ -13,9 +14,9 @@ use Rattle.order.proofs.opening.Tie as tie
 -- too short for any opening, and for this one
 short : (s : List ℕ) → length s < 14 → unread 11 ≡ openingOf s
 unfolding openingOf
-short s h = let k : length s < 14 + 4 * linesOf s = omega arith in simp (lt-leb (14 + 4 * linesOf s) (length s) k)
+short s h = let k : length s < 14 + 4 * field 3 1 s = omega arith in simp (lt-leb (14 + 4 * field 3 1 s) (length s) k)
 
-cut : (s : List ℕ) (n : ℕ) → n ≡ linesOf s → length s < 14 + 4 * n → unread 11 ≡ openingOf s
+cut : (s : List ℕ) (n : ℕ) → n ≡ field 3 1 s → length s < 14 + 4 * n → unread 11 ≡ openingOf s
 unfolding openingOf
 cut s n q h = simp (← q, lt-leb (14 + 4 * n) (length s) h)
 

@@ -5,7 +5,7 @@ use Prim.Native.Nat.{ℕ, _≤_, _<_}
 use lib.ListN.{length}
 use borrow.Author.Tests.{lt-leb, le-leb, ne-eqb}
 use Rattle.numbers.specs.Digits.{field}
-use Rattle.order.specs.Records.{unread, mark, byMark, reading}
+use Rattle.order.specs.Records.{unread, byMark, reading}
 use Rattle.order.proofs.Alone.{reads}
 use borrow.Author.Needs.{needs}
 use Rattle.order.proofs.read.Statement.{statement}
@@ -15,7 +15,7 @@ none : (s : List ℕ) → length s < 2 → unread 11 ≡ reading s
 unfolding reading
 none s h = simp (lt-leb _ _ h)
 
-marked : (s : List ℕ) (m k : ℕ) → 2 ≤ length s → m ≡ field 0 2 s → m ≡ k → reading s ≡ byMark (mark k) s
+marked : (s : List ℕ) (m k : ℕ) → 2 ≤ length s → m ≡ field 0 2 s → m ≡ k → reading s ≡ byMark k s
 unfolding reading
 marked s m k h e f = simp (le-leb _ _ h, sym e, f)
 

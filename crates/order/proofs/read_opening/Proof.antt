@@ -8,7 +8,7 @@ use lib.Dec.{eqb, leb}
 use borrow.Author.Tests.{lt-leb, le-leb, ne-eqb}
 use Rattle.numbers.specs.Digits.{field}
 use Rattle.numbers.specs.Case.{pick}
-use Rattle.order.specs.Records.{Reading, unread, OB, OC, OS, unknown, mark, linesOf, openingOf, bookingOf, compactOf, sweepOf, byMark, reading, openingOnly}
+use Rattle.order.specs.Records.{Reading, unread, openingOf, bookingOf, compactOf, sweepOf, byMark, reading, openingOnly}
 use Rattle.order.proofs.Alone.{reads-opening}
 use borrow.Author.Needs.{needs}
 use Rattle.order.proofs.read_opening.Statement.{statement}
@@ -29,19 +29,19 @@ whole-opening false x e = refl
 
 opening-alone : (s : List ℕ) → openingOnly (openingOf s) ≡ openingOf s
 unfolding openingOf
-opening-alone s = whole-opening (leb (14 + 4 * linesOf s) (length s)) _ refl
+opening-alone s = whole-opening (leb (14 + 4 * field 3 1 s) (length s)) _ refl
 
-other-mark : (s : List ℕ) (k : ℕ) → (k ≡ 0x4F4C → ⊥) → openingOnly (byMark (mark k) s) ≡ unread 11
+other-mark : (s : List ℕ) (k : ℕ) → (k ≡ 0x4F4C → ⊥) → openingOnly (byMark k s) ≡ unread 11
 unfolding byMark bookingOf compactOf sweepOf
 other-mark s k h = rw (ne-eqb k 0x4F4C h) (go (eqb k 0x4F42) (eqb k 0x4F43) (eqb k 0x4F53))
   where
-    go : (a b c : Bool) → openingOnly (byMark (pick a OB (pick b OC (pick c OS unknown))) s) ≡ unread 11
+    go : (a b c : Bool) → openingOnly (pick a (bookingOf s) (pick b (compactOf s) (pick c (sweepOf s) (unread 11)))) ≡ unread 11
     go true b c = whole-order (leb 14 (length s)) _ refl
     go false true c = whole-order (leb 10 (length s)) _ refl
     go false false true = whole-order (leb 8 (length s)) _ refl
     go false false false = refl
 
-marked : (s : List ℕ) (m k : ℕ) → 2 ≤ length s → m ≡ field 0 2 s → m ≡ k → openingOnly (reading s) ≡ openingOnly (byMark (mark k) s)
+marked : (s : List ℕ) (m k : ℕ) → 2 ≤ length s → m ≡ field 0 2 s → m ≡ k → openingOnly (reading s) ≡ openingOnly (byMark k s)
 unfolding reading
 marked s m k h e f = simp (le-leb _ _ h, sym e, f)
 
