@@ -25,8 +25,9 @@ use Rattle.state.specs.SoundLaws.{split-room}
 use Rattle.memory.specs.Holds.{Holds, Whole, After}
 use Rattle.memory.proofs.Whole.{floor-is, after-none}
 use Rattle.taking.specs.Take.{Splitting, Splittable, Splits, overfull}
-use Rattle.booking.specs.declared.Taken.{Taken}
-use Rattle.booking.specs.Book.{takenAt, takenOf, Seeks, Books}
+use Rattle.seeking.specs.declared.Taken.{Taken}
+use Rattle.seeking.specs.Seek.{takenAt, takenOf, Seeks}
+use Rattle.booking.specs.Book.{Books}
 
 -- ---- what the code's struct tells of the search
 module _ (x : Taken) (y : Seeking) (q : x ≡ takenOf (x .noted) y) where

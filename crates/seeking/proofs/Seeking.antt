@@ -1,6 +1,6 @@
 -- The search over the starts, as its loop has it, and its steps: after i delays the whole search is the one over the
 -- delays left, with the visits so far.
-use mathlib.Core.Path.{_≡_, sym, ap, _∙_}
+use mathlib.Core.Path.{_≡_, sym, ap, subst, _∙_}
 use mathlib.Core.Bool.{Bool, true, false, false≢true}
 use mathlib.Core.List.{List, [], _∷_}
 use Prim.Native.Nat.{ℕ, suc, _+_, _*_, _≤_, _<_}
@@ -32,7 +32,12 @@ use Rattle.memory.specs.Holds.{Holds, Whole}
 use Rattle.memory.specs.Steps.{Pointed}
 use Rattle.memory.proofs.Parts.{padded-at}
 use Rattle.memory.proofs.Whole.{root-stands}
-use Rattle.booking.specs.Book.{takenOf}
+use Rattle.seeking.specs.declared.Taken.{Taken}
+use Rattle.seeking.specs.Seek.{takenOf, Seeks, Points}
+
+-- what is said of y, said of what is equal to it
+pub taken-as : (r h p : ℕ) (m ws : List ℕ) (x y : Taken) → x ≡ y → Seeks r h p y m × Points m ws y → Seeks r h p x m × Points m ws x
+taken-as r h p m ws x y e a = subst (λ z. Seeks r h p z m × Points m ws z) (sym e) a
 
 -- a search that n visits went before
 abbrev pub after : ℕ → Seeking → Seeking

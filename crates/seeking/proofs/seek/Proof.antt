@@ -4,9 +4,10 @@ use mathlib.Core.Logic.{⊎-elim}
 use lib.ListN.{length}
 use Prim.Native.Nat.{_-_}
 use native.Mathlib.Omega.{arith}
-use Rattle.booking.proofs.Seeking.{Going, searchable, points, at-once, going-first, nowhere-left, few-lines, short-delay, going-skipped, few-more, taken-here, going-past, early}
-use Rattle.booking.proofs.seek.Statement.{statement}
-use Rattle.booking.proofs.seek.Tie as tie
+use borrow.Author.Needs.{needs}
+use Rattle.seeking.proofs.Seeking.{taken-as, Going, searchable, points, at-once, going-first, nowhere-left, few-lines, short-delay, going-skipped, few-more, taken-here, going-past, early}
+use Rattle.seeking.proofs.seek.Statement.{statement}
+use Rattle.seeking.proofs.seek.Tie as tie
 
 abbrev Inv-loop : tie.InvT-loop
 Inv-loop mem arrival hold permitted way₀ root lines count₀ i₀ way count i = Going mem arrival hold permitted count i × (length way ≡ length way₀)
@@ -28,9 +29,10 @@ search-requires c κs = let a = c .before .before .before .before .before .args 
 
 returns : tie.Need-returns Inv-loop μ-loop
 returns c =
-    let a = c .before .before .before .before .before .before .before .before .before .args in (
-      at-once _ (a .arrival) (a .hold) (a .permitted) _ (c .before .before .before .before .before .before .get .ensures) _ (c .before .before .before .search .ensures .0) (c .if1 .taken),
-      (λ h. points _ (a .arrival) (a .hold) (a .permitted) _ (c .before .before .before .before .before .before .get .ensures) _ (omega (arith, c .before .before .before .before .before .before .before .before .before .pre .0 .2, c .before .before .before .search .kept .1 .1 .1 .1 .0)) (c .before .before .before .search .result) (c .before .before .before .search .ensures .1) (c .if1 .taken)),
+    let a = c .before .before .before .before .before .before .before .before .before .before .args in
+    taken-as (a .arrival) (a .hold) (a .permitted) _ _ _ _ (c .found-at .ensures) (
+      at-once _ (a .arrival) (a .hold) (a .permitted) _ (c .before .before .before .before .before .before .before .get .ensures) _ (c .before .before .before .before .search .ensures .0) (c .before .if1 .taken),
+      (λ h. points _ (a .arrival) (a .hold) (a .permitted) _ (c .before .before .before .before .before .before .before .get .ensures) _ (omega (arith, c .before .before .before .before .before .before .before .before .before .before .pre .0 .2, c .before .before .before .before .search .kept .1 .1 .1 .1 .0)) (c .before .before .before .before .search .result) (c .before .before .before .before .search .ensures .1) (c .before .if1 .taken)),
     )
 
 loop-holds : tie.Need-loop-holds Inv-loop μ-loop
@@ -69,16 +71,17 @@ add-count c =
     let a = c .before .before .before .before .before .before .before .before .before .before .before .before .before .before .before .before .before .before .before .args in
     omega (arith, few-more _ (a .arrival) (a .hold) (a .permitted) _ (c .before .before .before .before .before .before .before .before .before .before .before .before .before .before .before .before .get .ensures) _ (c .before .before .before .before .before .before .before .before .before .before .before .before .before .before .before .get2 .ensures) _ _ (c .before .before .before .before .before .before .before .before .before .loop .inv .0) (c .before .before .before .before .before .before .before .before .before .before .before .before .before .before .before .before .before .before .before .pre .1) (c .before .before .before .before .before .before .before .before .loop-test .taken) _ (c .before .before .before .before .before .before .before .get3 .ensures) _ (c .before .before .before .before .before .before .tried .ensures) (c .before .before .before .before .before .if2 .taken) _ (c .before .before .before .search2 .ensures .0))
 
-add-t27 : tie.Need-add-t27 Inv-loop μ-loop
-add-t27 c =
+add-found-at : tie.Need-add-found-at Inv-loop μ-loop
+add-found-at c =
     let a = c .before .before .before .before .before .before .before .before .before .before .before .before .before .before .before .before .before .before .before .before .args in
     omega (arith, few-lines _ (a .arrival) (a .hold) (a .permitted) _ (c .before .before .before .before .before .before .before .before .before .before .before .before .before .before .before .before .before .get .ensures) _ (c .before .before .before .before .before .before .before .before .before .before .before .before .before .before .before .before .get2 .ensures) _ _ (c .before .before .before .before .before .before .before .before .before .before .loop .inv .0) (c .before .before .before .before .before .before .before .before .before .before .before .before .before .before .before .before .before .before .before .before .pre .1) (c .before .before .before .before .before .before .before .before .before .loop-test .taken))
 
 returns-2 : tie.Need-returns-2 Inv-loop μ-loop
 returns-2 c =
-    let a = c .before .before .before .before .before .before .before .before .before .before .before .before .before .before .before .before .before .before .before .before .args in (
-      taken-here _ (a .arrival) (a .hold) (a .permitted) _ (c .before .before .before .before .before .before .before .before .before .before .before .before .before .before .before .before .before .get .ensures) _ (c .before .before .before .before .before .before .before .before .before .before .before .before .before .before .before .before .get2 .ensures) _ _ (c .before .before .before .before .before .before .before .before .before .before .loop .inv .0) (c .before .before .before .before .before .before .before .before .before .before .before .before .before .before .before .before .before .before .before .before .pre .1) (c .before .before .before .before .before .before .before .before .before .loop-test .taken) _ (c .before .before .before .before .before .before .before .before .get3 .ensures) _ (c .before .before .before .before .before .before .before .tried .ensures) (c .before .before .before .before .before .before .if2 .taken) _ (c .before .before .before .before .search2 .ensures .0) (c .if3 .taken),
-      (λ h. points _ (a .arrival) (a .hold) (a .permitted) _ (c .before .before .before .before .before .before .before .before .before .before .before .before .before .before .before .before .before .get .ensures) _ (omega (arith, c .before .before .before .before .before .before .before .before .before .before .before .before .before .before .before .before .before .before .before .before .pre .0 .2, c .before .before .before .before .before .before .before .before .before .before .loop .inv .1, c .before .before .before .before .before .before .before .before .before .before .before .before .before .before .search .kept .1 .1 .1 .1 .0, c .before .before .before .before .search2 .kept .1 .1 .1 .1 .0)) (c .before .before .before .before .search2 .result) (c .before .before .before .before .search2 .ensures .1) (c .if3 .taken)),
+    let a = c .before .before .before .before .before .before .before .before .before .before .before .before .before .before .before .before .before .before .before .before .before .args in
+    taken-as (a .arrival) (a .hold) (a .permitted) _ _ _ _ (c .found-at2 .ensures) (
+      taken-here _ (a .arrival) (a .hold) (a .permitted) _ (c .before .before .before .before .before .before .before .before .before .before .before .before .before .before .before .before .before .before .get .ensures) _ (c .before .before .before .before .before .before .before .before .before .before .before .before .before .before .before .before .before .get2 .ensures) _ _ (c .before .before .before .before .before .before .before .before .before .before .before .loop .inv .0) (c .before .before .before .before .before .before .before .before .before .before .before .before .before .before .before .before .before .before .before .before .before .pre .1) (c .before .before .before .before .before .before .before .before .before .before .loop-test .taken) _ (c .before .before .before .before .before .before .before .before .before .get3 .ensures) _ (c .before .before .before .before .before .before .before .before .tried .ensures) (c .before .before .before .before .before .before .before .if2 .taken) _ (c .before .before .before .before .before .search2 .ensures .0) (c .before .if3 .taken),
+      (λ h. points _ (a .arrival) (a .hold) (a .permitted) _ (c .before .before .before .before .before .before .before .before .before .before .before .before .before .before .before .before .before .before .get .ensures) _ (omega (arith, c .before .before .before .before .before .before .before .before .before .before .before .before .before .before .before .before .before .before .before .before .before .pre .0 .2, c .before .before .before .before .before .before .before .before .before .before .before .loop .inv .1, c .before .before .before .before .before .before .before .before .before .before .before .before .before .before .before .search .kept .1 .1 .1 .1 .0, c .before .before .before .before .before .search2 .kept .1 .1 .1 .1 .0)) (c .before .before .before .before .before .search2 .result) (c .before .before .before .before .before .search2 .ensures .1) (c .before .if3 .taken)),
     )
 
 add-i : tie.Need-add-i Inv-loop μ-loop
@@ -99,19 +102,29 @@ loop-again c =
 
 returns-3 : tie.Need-returns-3 Inv-loop μ-loop
 returns-3 c =
-    let a = c .before .before .before .before .before .before .before .before .before .before .before .args in (
-      nowhere-left _ (a .arrival) (a .hold) (a .permitted) _ (c .before .before .before .before .before .before .before .before .get .ensures) _ (c .before .before .before .before .before .before .before .get2 .ensures) _ _ (c .before .loop .inv .0) (c .loop-test .left),
+    let a = c .before .before .before .before .before .before .before .before .before .before .before .before .args in
+    taken-as (a .arrival) (a .hold) (a .permitted) _ _ _ _ (c .nothing .ensures) (
+      nowhere-left _ (a .arrival) (a .hold) (a .permitted) _ (c .before .before .before .before .before .before .before .before .before .get .ensures) _ (c .before .before .before .before .before .before .before .before .get2 .ensures) _ _ (c .before .before .loop .inv .0) (c .before .loop-test .left),
       (λ h. absurd (false≢true h)),
     )
 
+found-at-requires : tie.Need-found-at-requires Inv-loop μ-loop
+found-at-requires c κs = search needs
+
+found-at-requires-2 : tie.Need-found-at-requires-2 Inv-loop μ-loop
+found-at-requires-2 c κs = search needs
+
+nothing-requires : tie.Need-nothing-requires Inv-loop μ-loop
+nothing-requires c κs = search needs
+
 same-length : tie.Need-same-length Inv-loop μ-loop
-same-length c = c .before .before .before .search .kept .1 .1 .1 .1 .0
+same-length c = c .before .before .before .before .search .kept .1 .1 .1 .1 .0
 
 same-length-2 : tie.Need-same-length-2 Inv-loop μ-loop
-same-length-2 c = c .before .before .before .before .search2 .kept .1 .1 .1 .1 .0 ∙ (c .before .before .before .before .before .before .before .before .before .before .loop .inv .1 ∙ c .before .before .before .before .before .before .before .before .before .before .before .before .before .before .search .kept .1 .1 .1 .1 .0)
+same-length-2 c = c .before .before .before .before .before .search2 .kept .1 .1 .1 .1 .0 ∙ (c .before .before .before .before .before .before .before .before .before .before .before .loop .inv .1 ∙ c .before .before .before .before .before .before .before .before .before .before .before .before .before .before .before .search .kept .1 .1 .1 .1 .0)
 
 same-length-3 : tie.Need-same-length-3 Inv-loop μ-loop
-same-length-3 c = c .before .loop .inv .1 ∙ c .before .before .before .before .before .search .kept .1 .1 .1 .1 .0
+same-length-3 c = c .before .before .loop .inv .1 ∙ c .before .before .before .before .before .before .search .kept .1 .1 .1 .1 .0
 
 pub seek-spec : {M : Type 1} → statement M
 seek-spec =
@@ -123,6 +136,7 @@ seek-spec =
     get-requires-2
     add-search
     search-requires
+    found-at-requires
     same-length
     returns
     loop-holds
@@ -133,11 +147,13 @@ seek-spec =
     add-search-2
     search-requires-2
     add-count
-    add-t27
+    add-found-at
+    found-at-requires-2
     same-length-2
     returns-2
     add-i
     loop-less
     loop-again
+    nothing-requires
     same-length-3
     returns-3)

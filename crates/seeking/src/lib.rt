@@ -1,0 +1,85 @@
+// The search over the starts tried of a booking, in their order, up to the first that has a fit.
+// It changes nothing; what it finds is answered and taken apart in the crates booking and taking.
+ghost use mathlib.Core.Path.{_≡_};
+ghost use mathlib.Core.Bool.{true};
+ghost use Prim.Native.Nat.{_+_, _≤_};
+ghost use lib.ListN.{length};
+ghost use Rattle.rule.specs.Moments.{lastMoment};
+ghost use Rattle.rule.specs.Settings.{longest};
+ghost use Rattle.node.specs.Paths.{longestWay};
+ghost use Rattle.memory.specs.Holds.{Whole};
+ghost use Rattle.state.specs.Act.{nowhere};
+ghost use Rattle.seeking.specs.Seek.{takenAt, Seeks, Points};
+use numbers::words::get;
+use search::Found;
+
+// What the search over the starts came to: the line, the start and the void taken, or none (then all are 0); the visits; and how
+// far down the way to the void is noted.
+pub struct Taken {
+    pub found: bool,
+    pub line: u64,
+    pub start: u64,
+    pub key: u64,
+    pub end: u64,
+    pub count: u64,
+    pub noted: usize,
+}
+
+// What is found at a start, on the line named.
+fn found_at(line: u64, start: u64, x: Found, count: u64) -> Taken
+    ensures { λ t. ⌜ t ≡ record { found = true; line = line; start = start; key = x .key; end = x .end; count = count; noted = x .noted } ⌝ }
+{
+    Taken {
+        found: true,
+        line,
+        start,
+        key: x.key,
+        end: x.end,
+        count,
+        noted: x.noted,
+    }
+}
+
+// Nothing, after so many visits.
+fn nothing(count: u64) -> Taken
+    ensures { λ t. ⌜ t ≡ takenAt 0 count nowhere ⌝ }
+{
+    Taken {
+        found: false,
+        line: 0,
+        start: 0,
+        key: 0,
+        end: 0,
+        count,
+        noted: 0,
+    }
+}
+
+// The starts tried, in their order, up to the first that has a fit.
+pub fn seek(mem: &[u8], arrival: u64, hold: u64, permitted: u64, way: &mut [u16]) -> Taken
+    requires { ⌜ (arrival + hold ≤ lastMoment) × (hold ≤ longest) × (longestWay ≤ length (now way)) ⌝ }
+    requires { ⌜ Whole (now mem) ⌝ }
+    ensures { λ x. ⌜ Seeks arrival hold permitted x (now (mem .entry)) × Points (now (mem .entry)) (now (way .exit)) x ⌝ }
+{
+    let root = get(mem, memory::ROOT) as usize;
+    let lines = get(mem, memory::LINES) as usize;
+    let at_once = search::search(mem, root, arrival, arrival + hold, way);
+    let mut count = at_once.visits;
+    if at_once.found {
+        return found_at(0, arrival, at_once, count);
+    }
+    let mut i: usize = 0;
+    while i < lines {
+        let d = get(mem, memory::DELAYS + i);
+        if rule::starts::tried(arrival, hold, permitted, i as u64, d) {
+            let start = arrival + d;
+            let x = search::search(mem, root, start, start + hold, way);
+            count += x.visits;
+            if x.found {
+                return found_at(i as u64 + 1, start, x, count);
+            }
+        }
+        i += 1;
+    }
+    nothing(count)
+}
