@@ -1,12 +1,10 @@
 // Booking on one link: the codes that need no search, the void found (crate seeking) taken apart (crate taking), the answer.
 // The starts tried, the room and the pieces are proved there; here they come together.
 ghost use mathlib.Core.Path.{_≡_};
-ghost use Prim.Native.Nat.{_+_, _≤_, _<_, _^_};
+ghost use Prim.Native.Nat.{_≤_};
 ghost use Rattle.rule.specs.Moments.{lastMoment};
 ghost use Rattle.rule.specs.Settings.{longest};
 ghost use Rattle.rule.specs.Answer.{seven, numbersOf, refused};
-ghost use Rattle.node.specs.Paths.{longestWay};
-ghost use lib.ListN.{length};
 ghost use Rattle.state.specs.State.{State};
 ghost use Rattle.state.specs.Sound.{Sound};
 ghost use Rattle.memory.specs.Holds.{Holds, Whole};

@@ -4,7 +4,8 @@ use mathlib.Core.Path.{refl, _∙_}
 use native.Mathlib.Omega.{arith}
 use borrow.Author.Tests.{not-true, not-false}
 use Rattle.settled.proofs.Saying.{says-yes, says-no}
-use Rattle.survey.proofs.Surveying.{leaf-fits, entered, nothing, spent, outside, high, not-leaf, leaf-yes, left-no, right-no, not-joined, lower, node-yes}
+use Rattle.inspect.proofs.Inspecting.{leaf-fits}
+use Rattle.survey.proofs.Surveying.{entered, nothing, spent, outside, high, not-leaf, leaf-yes, left-no, right-no, not-joined, lower, node-yes}
 use Prim.Native.Nat.{ℕ, _<_}
 use borrow.Fn.Kinds.{In}
 use borrow.Fn.PlainCycle.{Measures, is, falls, and}
@@ -12,8 +13,8 @@ use Rattle.survey.proofs.survey.Reads as survey
 use Rattle.survey.proofs.survey.Kinds as survey-kinds
 use Rattle.survey.proofs.+survey.Lts-survey as survey-lts
 use Rattle.node.proofs.load.Reads as load-reads
-use Rattle.survey.proofs.joined.Reads as joined-reads
-use Rattle.survey.proofs.leaf.Reads as leaf-reads
+use Rattle.inspect.proofs.joined.Reads as joined-reads
+use Rattle.inspect.proofs.leaf.Reads as leaf-reads
 use Rattle.survey.proofs.+survey.{statement}
 use Rattle.survey.proofs.+survey.Tie.{close}
 

@@ -1,12 +1,12 @@
--- `survey::leaf`: the tests of a leaf, and the one end that it writes. Assumes nothing.
+-- `inspect::leaf`: the tests of a leaf, and the one end that it writes. Assumes nothing.
 use mathlib.Core.Path.{refl}
 use native.Mathlib.Omega.{arith}
 use borrow.Author.Tests.{not-true, not-false}
 use Rattle.settled.proofs.Saying.{says-yes, says-no}
-use Rattle.survey.proofs.Surveying.{no-leaf, touching, last-leaf}
+use Rattle.inspect.proofs.Inspecting.{no-leaf, touching, last-leaf}
 use borrow.Author.Needs.{needs}
-use Rattle.survey.proofs.leaf.Statement.{statement}
-use Rattle.survey.proofs.leaf.Tie as tie
+use Rattle.inspect.proofs.leaf.Statement.{statement}
+use Rattle.inspect.proofs.leaf.Tie as tie
 
 single-requires : tie.Need-single-requires
 single-requires c κs = search needs

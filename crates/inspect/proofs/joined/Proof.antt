@@ -1,10 +1,10 @@
--- `survey::joined`: each word of a node over two others. Assumes nothing.
+-- `inspect::joined`: each word of a node over two others. Assumes nothing.
 use native.Mathlib.Omega.{arith}
 use mathlib.Core.Path.{ap, _∙_}
 use Prim.Native.Nat.{ℕ, _+_}
 use borrow.Author.Needs.{needs}
-use Rattle.survey.proofs.joined.Statement.{statement}
-use Rattle.survey.proofs.joined.Tie as tie
+use Rattle.inspect.proofs.joined.Statement.{statement}
+use Rattle.inspect.proofs.joined.Tie as tie
 
 larger-requires : tie.Need-larger-requires
 larger-requires c κs = search needs

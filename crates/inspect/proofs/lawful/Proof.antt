@@ -1,9 +1,9 @@
--- `survey::lawful`: the four rules of a void. Assumes nothing.
+-- `inspect::lawful`: the four rules of a void. Assumes nothing.
 use Rattle.settled.proofs.Saying.{says-is, says-map}
 use native.Mathlib.Omega.{arith}
 use borrow.Author.Needs.{needs}
-use Rattle.survey.proofs.lawful.Statement.{statement}
-use Rattle.survey.proofs.lawful.Tie as tie
+use Rattle.inspect.proofs.lawful.Statement.{statement}
+use Rattle.inspect.proofs.lawful.Tie as tie
 
 channel-requires : tie.Need-channel-requires
 channel-requires c κs = search needs
