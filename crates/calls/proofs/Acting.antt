@@ -5,7 +5,7 @@ use mathlib.Core.List.{List, [], _∷_, _++_, append-nil}
 use Prim.Native.Nat.{ℕ, zero, suc, _+_, _*_, _-_, _≤_, _<_}
 use native.Mathlib.Omega.{arith}
 use borrow.Author.Tests.{lt-leb}
-use lib.ListN.{length, drop, getD, drop-of-length-le}
+use lib.ListN.{length, drop, drop-of-length-le}
 use Rattle.tally.specs.declared.Tally.{Tally}
 use Rattle.rule.specs.declared.answer.Answer.{Answer}
 use Rattle.rule.specs.Order.{Order}
@@ -16,24 +16,13 @@ use Rattle.order.specs.Kinds.{Kind, kind}
 use Rattle.order.proofs.Alone.{inside}
 use Rattle.state.specs.State.{State}
 use Rattle.state.specs.Act.{act}
-use Rattle.memory.specs.Holds.{Whole}
+use Rattle.state.specs.Sound.{Sound}
+use Rattle.memory.specs.Holds.{Whole, After}
+use Rattle.stepping.specs.Step.{Stepped, stepOn, unused}
 use Rattle.calls.specs.declared.act.Done.{Done}
 use Rattle.calls.specs.declared.run.RunDone.{RunDone}
-use Rattle.calls.specs.Run.{Stepped, stepOn, unused, Ran, ended, answered, onward, runFrom, runOn, flat}
+use Rattle.calls.specs.Run.{Ran, ended, answered, onward, runFrom, runOn, flat}
 use Rattle.calls.specs.Calls.{Unused, StepsTo, Acts, RunsTo, Runs}
-use Rattle.calls.proofs.Stepping.{unused-steps}
-
--- seven numbers one by one
-pub seven-of : (l : List ℕ) → length l ≡ 7 → getD l 0 0 ∷ getD l 1 0 ∷ getD l 2 0 ∷ getD l 3 0 ∷ getD l 4 0 ∷ getD l 5 0 ∷ getD l 6 0 ∷ [] ≡ l
-seven-of [] e = absurd (omega arith)
-seven-of (a ∷ []) e = absurd (omega arith)
-seven-of (a ∷ b ∷ []) e = absurd (omega arith)
-seven-of (a ∷ b ∷ c ∷ []) e = absurd (omega arith)
-seven-of (a ∷ b ∷ c ∷ d ∷ []) e = absurd (omega arith)
-seven-of (a ∷ b ∷ c ∷ d ∷ f ∷ []) e = absurd (omega arith)
-seven-of (a ∷ b ∷ c ∷ d ∷ f ∷ g ∷ []) e = absurd (omega arith)
-seven-of (a ∷ b ∷ c ∷ d ∷ f ∷ g ∷ h ∷ []) e = refl
-seven-of (a ∷ b ∷ c ∷ d ∷ f ∷ g ∷ h ∷ i ∷ l) e = absurd (omega arith)
 
 -- ---- with no room for seven numbers a run stops where it is
 record Stops (y : Ran) (s : State) (t : Tally) (p : ℕ) : Type 0 where
@@ -83,6 +72,10 @@ module _ (s : State) (t : Tally) where
   one (b ∷ bs) = read-one (length bs) (b ∷ bs) (reading (b ∷ bs)) (kind (b ∷ bs))
 
 -- ---- the answers of `act`
+-- no order
+unused-steps : (s : State) (t : Tally) (d : Done) (m m′ : List ℕ) → Sound s → After m m′ s → Unused 11 t d → (y : Reading) → stepOn s t y ≡ unused s t 11 → StepsTo (stepOn s t y) d m m′
+unused-steps s t d m m′ o h n y e = rw e (record { numbers = n .numbers; used = n .used; tally = n .tally; after = h; sound = o })
+
 module _ (t : Tally) (bytes : List ℕ) (x : RunDone) (m m′ out out′ : List ℕ) (l : length out ≡ 7) (r : Runs t bytes x m m′ out out′) where
   -- what the run is on the whole link s
   runs-seven : (s : State) → RunsTo (runOn s t (length out) bytes) x m m′ out out′ → RunsTo (runOn s t 7 bytes) x m m′ out out′

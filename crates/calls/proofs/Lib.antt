@@ -1,6 +1,4 @@
-pub mod Delays
 pub mod Opening
-pub mod Stepping
 pub mod Deciding
 pub mod Running
 pub mod Acting

@@ -21,10 +21,20 @@ use Rattle.state.specs.Sound.{Sound}
 use Rattle.state.specs.SettingsLaws.{act-settings}
 use Rattle.memory.specs.Holds.{Holds, Whole, After}
 use Rattle.memory.proofs.Whole.{after-none, after-then}
-use Rattle.calls.specs.declared.run.Single.{Single}
+use Rattle.stepping.specs.declared.Single.{Single}
+use Rattle.stepping.specs.Step.{Stepped, stepOn}
+use Rattle.stepping.specs.Steps.{StepsOn, Steps}
+use Rattle.calls.specs.declared.act.Done.{Done}
 use Rattle.calls.specs.declared.run.RunDone.{RunDone}
-use Rattle.calls.specs.Run.{stepOn, Ran, ended, answered, onward, runFrom, runOn, flat}
-use Rattle.calls.specs.Calls.{Gives, StepsTo, counted, Steps, RunsTo, Runs, RunsNot}
+use Rattle.calls.specs.Run.{Ran, ended, answered, onward, runFrom, runOn, flat}
+use Rattle.calls.specs.Calls.{Gives, StepsTo, RunsTo, Runs, RunsNot}
+
+-- ---- a step, as the record acted on: what it gave, and the tally with its row raised
+abbrev counted : Tally → Single → Done
+counted t x = record { tally = raised t (x .row); acted = record { answer = x .answer; used = x .used } }
+
+counted-steps : (y : Stepped) (t : Tally) (x : Single) (m m′ : List ℕ) → StepsOn y t x m m′ → StepsTo y (counted t x) m m′
+counted-steps y t x m m′ z = record { numbers = z .numbers; used = z .used; tally = z .tally; after = z .after; sound = z .sound }
 
 -- ---- the definition of a run, a record at a time
 module _ (n : ℕ) (s : State) (t : Tally) (room place : ℕ) where
@@ -169,7 +179,7 @@ module _ {m₀ bytes out₀ : List ℕ} {t₀ : Tally} {m out : List ℕ} {t : T
 
   module _ (h : place < length bytes) (r : 7 ≤ length out - written) (m′ : List ℕ) (x : Single) (f : Steps (drop place bytes) x m m′) where
     step : StepsTo (stepOn (p .state) t (reading (drop place bytes))) (counted t x) m m′
-    step = f (p .state) (p .sound) (p .after .holds) t
+    step = counted-steps _ t x m m′ (f (p .state) (p .sound) (p .after .holds) t)
 
     pub run-stuck : x .used ≡ 0 → Runs t₀ bytes (record { tally = t; ran = record { code = 11; place = place; answered = count } }) m₀ m′ out₀ out
     run-stuck z = go (reading (drop place bytes)) refl

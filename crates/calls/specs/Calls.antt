@@ -2,23 +2,20 @@
 use mathlib.Core.Path.{_≡_}
 use mathlib.Core.Logic.{_⊎_}
 use mathlib.Core.List.{List, [], _∷_, _++_}
-use Prim.Native.Nat.{ℕ, _*_, _-_}
-use lib.Dec.{eqb}
-use Rattle.numbers.specs.Case.{pick}
+use Prim.Native.Nat.{ℕ, _*_}
 use lib.ListN.{length, drop}
 use Rattle.tally.specs.declared.Tally.{Tally}
 use Rattle.rule.specs.Answer.{refused, seven, numbersOf}
-use Rattle.tally.specs.Counts.{raised}
 use Rattle.order.specs.Records.{reading}
 use Rattle.shape.specs.Tree.{size}
 use Rattle.state.specs.State.{State}
 use Rattle.state.specs.Sound.{Sound}
 use Rattle.memory.specs.Holds.{Holds, Whole, After}
+use Rattle.stepping.specs.Step.{Stepped, stepOn}
 use Rattle.calls.specs.declared.act.Done.{Done}
 use Rattle.calls.specs.declared.run.RunDone.{RunDone}
-use Rattle.calls.specs.declared.run.Single.{Single}
 use Rattle.calls.specs.declared.tell.Told.{Told}
-use Rattle.calls.specs.Run.{Stepped, stepOn, Ran, runOn, flat}
+use Rattle.calls.specs.Run.{Ran, runOn, flat}
 
 -- what a call gives, by what the memory holds: f of the whole link s, or b where it holds none (code 2)
 abbrev pub Gives : List ℕ → (State → Type 0) → Type 0 → Type 0
@@ -38,18 +35,6 @@ pub record Unused (code : ℕ) (t : Tally) (d : Done) : Type 0 where
   pub numbers : numbersOf (d .acted .answer) ≡ seven (refused code) 0
   pub used : d .acted .used ≡ 0
   pub tally : d .tally ≡ t
-
--- the tally's row of an answer with this code, of an order that if accepted is counted in the row given
-abbrev pub rowAt : (code accepted : ℕ) → ℕ
-rowAt code accepted = pick (eqb code 0) accepted (code - 1)
-
--- what a record gave, and the tally with its row raised
-abbrev pub counted : Tally → Single → Done
-counted t x = record { tally = raised t (x .row); acted = record { answer = x .answer; used = x .used } }
-
--- one record on a memory that is known to hold a whole link, whatever the tally
-abbrev pub Steps : (bytes : List ℕ) → Single → (m m′ : List ℕ) → Type 0
-Steps bytes x m m′ = (s : State) → Sound s → Holds m s → (t : Tally) → StepsTo (stepOn s t (reading bytes)) (counted t x) m m′
 
 -- code 2: nothing is used, raised or changed
 pub record ActsNot (t : Tally) (d : Done) (m m′ : List ℕ) : Type 0 where

@@ -1,7 +1,4 @@
 // Acting on the single record at the start of a buffer (specs/Calls.antt, `Acts`): a run with room for one answer.
-ghost use mathlib.Core.Path.{_≡_};
-ghost use lib.ListN.{length};
-ghost use Rattle.rule.specs.Answer.{numbersOf};
 ghost use Rattle.calls.specs.Calls.{Unused, Acts};
 use crate::run::run;
 use rule::answer::Answer;
@@ -39,22 +36,6 @@ fn refused(code: u64, tally: Tally) -> Done
     }
 }
 
-// The seven numbers of a run's one answer.
-fn answer(numbers: &[u64]) -> Answer
-    requires { ⌜ length (now numbers) ≡ 7 ⌝ }
-    ensures { λ a. ⌜ numbersOf a ≡ now (numbers .entry) ⌝ }
-{
-    Answer {
-        code: numbers[0],
-        channel: numbers[1],
-        line: numbers[2],
-        start: numbers[3],
-        finish: numbers[4],
-        count: numbers[5],
-        dropped: numbers[6],
-    }
-}
-
 // With room for seven numbers a run ends after the first record: no byte after it is read.
 pub fn act(mem: &mut [u8], tally: Tally, bytes: &[u8]) -> Done
     ensures { λ d. ⌜ Acts tally (now (bytes .entry)) d (now (mem .entry)) (now (mem .exit)) ⌝ }
@@ -72,7 +53,7 @@ pub fn act(mem: &mut [u8], tally: Tally, bytes: &[u8]) -> Done
     Done {
         tally: after,
         acted: Acted {
-            answer: answer(&numbers),
+            answer: seven::read(&numbers),
             used: ran.place,
         },
     }

@@ -12,7 +12,7 @@ use Rattle.numbers.specs.Case.{case-eq}
 use Rattle.numbers.specs.Words.{word}
 use Rattle.tally.specs.declared.Tally.{Tally}
 use Rattle.rule.specs.Answer.{Reply, booked, swept, refused, seven, numbersOf}
-use Rattle.tally.specs.Counts.{rowOf, raised}
+use Rattle.tally.specs.Counts.{rowOf, rowAt, raised}
 use Rattle.rule.specs.Order.{Order, booking, sweep}
 use Rattle.order.specs.Records.{Reading, unread, opening, order, reading}
 use Rattle.node.proofs.Same.{Bytes}
@@ -25,13 +25,14 @@ use Rattle.memory.proofs.Parts.{past-none}
 use Rattle.memory.specs.Holds.{Whole, Past, After}
 use Rattle.opening.proofs.Same.{broken, small, fine, answer}
 use Rattle.opening.proofs.Same
+use Rattle.stepping.specs.Step.{Stepped, stepOn}
 use Rattle.calls.specs.declared.open.Opened.{Opened}
 use Rattle.calls.specs.declared.act.Done.{Done}
 use Rattle.calls.specs.declared.run.RunDone.{RunDone}
 use Rattle.calls.specs.declared.tell.Told.{Told}
 use Rattle.calls.specs.Opens.{settingsOf, OpensAs, OpensRead, Opens}
-use Rattle.calls.specs.Run.{Stepped, stepOn, runOn, flat}
-use Rattle.calls.specs.Calls.{rowAt, Acts, Runs, Tells}
+use Rattle.calls.specs.Run.{runOn, flat}
+use Rattle.calls.specs.Calls.{Acts, Runs, Tells}
 use Rattle.calls.proofs.Within.{run-within}
 use Rattle.grounds.specs.Orders.{ordersIn, sevens, after}
 use Rattle.grounds.specs.RecordLaws.{Fair, reading-fair}

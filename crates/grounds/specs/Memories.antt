@@ -16,10 +16,11 @@ use Rattle.state.specs.Sound.{Sound}
 use Rattle.state.specs.Places.{Placed}
 use Rattle.memory.specs.Holds.{Holds, After}
 use Rattle.memory.proofs.Same.{one-link, determined, one-after}
+use Rattle.stepping.specs.Step.{stepOn}
 use Rattle.calls.specs.declared.act.Done.{Done}
 use Rattle.calls.specs.declared.run.RunDone.{RunDone}
 use Rattle.calls.specs.declared.tell.Told.{Told}
-use Rattle.calls.specs.Run.{stepOn, runOn}
+use Rattle.calls.specs.Run.{runOn}
 use Rattle.calls.specs.Calls.{Gives, StepsTo, ActsNot, Acts, RunsTo, RunsNot, Runs, Tells}
 
 -- what a run gives is its parts

@@ -28,9 +28,10 @@ use Rattle.memory.specs.Holds.{Holds}
 use Rattle.opening.proofs.Same.{broken, small, fine, answer}
 use Rattle.opening.proofs.Same
 use Rattle.opening.specs.Opening.{openingCode}
+use Rattle.stepping.specs.Step.{stepOn}
 use Rattle.calls.specs.declared.open.Opened.{Opened}
 use Rattle.calls.specs.Opens.{OpensAs, OpensRead, Opens}
-use Rattle.calls.specs.Run.{stepOn, runOn, flat}
+use Rattle.calls.specs.Run.{runOn, flat}
 use Rattle.calls.specs.Calls.{StepsTo}
 use Rattle.grounds.specs.Orders.{ordersIn, orders-one, orders-unread, orders-opening, sevens, after}
 use Rattle.grounds.specs.RecordLaws.{Fair, reading-fair, order-fair}

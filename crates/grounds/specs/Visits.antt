@@ -28,10 +28,11 @@ use Rattle.state.specs.Range.{AllInRange}
 use Rattle.state.specs.Count.{triedBy, Counted}
 use Rattle.state.specs.CountLaws.{act-count, refused-count, sweep-count}
 use Rattle.memory.specs.Holds.{Holds}
+use Rattle.stepping.specs.Step.{stepOn}
 use Rattle.calls.specs.declared.act.Done.{Done}
 use Rattle.calls.specs.declared.run.RunDone.{RunDone}
 use Rattle.calls.specs.declared.tell.Told.{Told}
-use Rattle.calls.specs.Run.{stepOn, runOn, flat}
+use Rattle.calls.specs.Run.{runOn, flat}
 use Rattle.calls.specs.Calls.{Acts, Runs, Tells}
 use Rattle.grounds.specs.Orders.{ordersIn, sevens}
 use Rattle.grounds.specs.RunLaws.{run-is-orders}

@@ -1,8 +1,9 @@
 // The record reader: the bytes at the start of a buffer, as an order or a refusal.
 // Every byte string is answered; nothing here knows a link.
 ghost use mathlib.Core.Path.{_≡_};
-ghost use Prim.Native.Nat.{_^_, _≤_, _<_};
-ghost use Rattle.order.specs.Records.{openingOf, bookingOf, compactOf, sweepOf};
+ghost use Prim.Native.Nat.{_+_, _*_, _^_, _≤_, _<_};
+ghost use lib.ListN.{length, take};
+ghost use Rattle.order.specs.Records.{delaysAt, openingOf, bookingOf, compactOf, sweepOf};
 ghost use Rattle.order.specs.Read.{meant, Narrow, Reads, ReadsOpening, delayOf};
 use numbers::digits::field;
 
@@ -141,4 +142,18 @@ pub fn delay(s: &[u8], i: usize) -> u64
         return 0;
     }
     field(s, at, 4)
+}
+
+// The delays of an opening with n lines, at most 16, in an array.
+pub fn delays_of(bytes: &[u8], n: usize) -> [u64; 16]
+    requires { ⌜ (n ≤ 16) × (14 + 4 * n ≤ length (now bytes)) ⌝ }
+    ensures { λ ds. ⌜ (length ds ≡ 16) × (take n ds ≡ delaysAt 14 n (now (bytes .entry))) ⌝ }
+{
+    let mut delays = [0u64; 16];
+    let mut i = 0;
+    while i < n {
+        delays[i] = delay(bytes, i);
+        i += 1;
+    }
+    delays
 }

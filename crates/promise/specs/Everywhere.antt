@@ -13,8 +13,8 @@ use Rattle.state.specs.Act.{act}
 use Rattle.state.specs.Sound.{Sound}
 use Rattle.state.specs.VoidLaws.{has-voids}
 use Rattle.memory.specs.Holds.{Holds}
+use Rattle.stepping.specs.Step.{stepOn}
 use Rattle.calls.specs.declared.act.Done.{Done}
-use Rattle.calls.specs.Run.{stepOn}
 use Rattle.calls.specs.Calls.{Acts}
 use Rattle.grounds.specs.Answered.{Answered}
 use Rattle.grounds.specs.Memories.{acts-on}

@@ -19,9 +19,10 @@ use Rattle.state.specs.SoundLaws.{act-sound}
 use Rattle.state.specs.Range.{AllInRange}
 use Rattle.memory.specs.Holds.{Holds, After}
 use Rattle.memory.proofs.Whole.{after-none, after-then}
+use Rattle.stepping.specs.Step.{stepOn}
 use Rattle.calls.specs.declared.act.Done.{Done}
 use Rattle.calls.specs.declared.run.RunDone.{RunDone}
-use Rattle.calls.specs.Run.{stepOn, runOn, flat}
+use Rattle.calls.specs.Run.{runOn, flat}
 use Rattle.calls.specs.Calls.{StepsTo, Acts, Runs}
 use Rattle.grounds.specs.Orders.{ordersIn, orders-one, sevens, after, tallied}
 use Rattle.grounds.specs.RecordLaws.{bytes-drop, order-fair}

@@ -30,6 +30,10 @@ rowOf (booked c i r f) = 0
 rowOf (swept d) = 1
 rowOf (refused x) = x - 1
 
+-- the tally's row of an answer with this code, of an order that if accepted is counted in the row given
+abbrev pub rowAt : (code accepted : ℕ) → ℕ
+rowAt code accepted = pick (eqb code 0) accepted (code - 1)
+
 -- "a count at 2^64 - 1 stays there"
 abbrev pub highest : ℕ
 highest = 2 ^ 64 - 1

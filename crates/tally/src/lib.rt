@@ -1,6 +1,6 @@
-// The tally by value, and the raising of one of its counts (specs/Counts.antt).
+// The tally by value, the row of an answer's code, and the raising of one of its counts (specs/Counts.antt).
 ghost use mathlib.Core.Path.{_≡_};
-ghost use Rattle.tally.specs.Counts.{up, raised};
+ghost use Rattle.tally.specs.Counts.{rowAt, up, raised};
 
 #[repr(C)]
 pub struct Tally {
@@ -14,6 +14,13 @@ pub struct Tally {
     pub code8: u64,
     pub code9: u64,
     pub code10: u64,
+}
+
+// The tally's row of an answer: 0 bookings, 1 sweeps, then codes 3 to 10.
+pub fn row(code: u64, accepted: u64) -> u64
+    ensures { λ r. ⌜ r ≡ rowAt code accepted ⌝ }
+{
+    if code == 0 { accepted } else { code - 1 }
 }
 
 // One more, and no more than the largest number.

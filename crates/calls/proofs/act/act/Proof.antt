@@ -29,17 +29,17 @@ same-length-2 c = search needs
 returns-2 : tie.Need-returns-2
 returns-2 c = act-unread (c .before .before .before .before .before .before .before .before .before .before .before .before .before .before .args .tally) (c .before .before .before .before .before .before .before .before .before .before .before .before .before .before .args .bytes .now) (c .before .before .before .before .before .before .before .before .before .run .result) (c .before .before .before .before .before .before .before .before .before .before .before .before .before .before .args .mem .now) (c .before .before .before .before .before .before .before .before .before .run .last .0) _ (c .before .before .before .before .before .before .before .before .before .run .last .1 .1 .1 .0) refl (c .before .before .before .before .before .before .before .before .before .run .ensures) _ (c .before .before .before .if1 .left) (c .before .if2 .taken) (c .refused2 .ensures)
 
-slice-aggregate-answer : tie.Need-slice-aggregate-answer
-slice-aggregate-answer c = search needs
+slice-aggregate-read : tie.Need-slice-aggregate-read
+slice-aggregate-read c = search needs
 
-answer-requires : tie.Need-answer-requires
-answer-requires c κs = search needs
+read-requires : tie.Need-read-requires
+read-requires c κs = search needs
 
 same-length-3 : tie.Need-same-length-3
 same-length-3 c = search needs
 
 returns-3 : tie.Need-returns-3
-returns-3 c = act-done (c .before .before .before .before .before .before .before .before .before .before .before .before .before .before .before .before .args .tally) (c .before .before .before .before .before .before .before .before .before .before .before .before .before .before .before .before .args .bytes .now) (c .before .before .before .before .before .before .before .before .before .before .before .run .result) (c .before .before .before .before .before .before .before .before .before .before .before .before .before .before .before .before .args .mem .now) (c .before .before .before .before .before .before .before .before .before .before .before .run .last .0) _ (c .before .before .before .before .before .before .before .before .before .before .before .run .last .1 .1 .1 .0) refl (c .before .before .before .before .before .before .before .before .before .before .before .run .ensures) _ (c .before .before .before .before .before .if1 .left) (c .before .before .before .if2 .left) (c .answer .ensures)
+returns-3 c = act-done (c .before .before .before .before .before .before .before .before .before .before .before .before .before .before .before .before .args .tally) (c .before .before .before .before .before .before .before .before .before .before .before .before .before .before .before .before .args .bytes .now) (c .before .before .before .before .before .before .before .before .before .before .before .run .result) (c .before .before .before .before .before .before .before .before .before .before .before .before .before .before .before .before .args .mem .now) (c .before .before .before .before .before .before .before .before .before .before .before .run .last .0) _ (c .before .before .before .before .before .before .before .before .before .before .before .run .last .1 .1 .1 .0) refl (c .before .before .before .before .before .before .before .before .before .before .before .run .ensures) _ (c .before .before .before .before .before .if1 .left) (c .before .before .before .if2 .left) (c .read .ensures)
 
 pub act-spec : {M : Type 1} → statement M
 act-spec =
@@ -53,7 +53,7 @@ act-spec =
     refused-requires-2
     same-length-2
     returns-2
-    slice-aggregate-answer
-    answer-requires
+    slice-aggregate-read
+    read-requires
     same-length-3
     returns-3)

@@ -66,8 +66,8 @@ same-length-5 c = c .before .before .before .before .before .before .before .bef
 returns-3 : tie.Need-returns-3 Inv-loop μ-loop
 returns-3 c = run-stuck (c .before .before .before .before .before .before .before .before .loop .inv) (c .before .before .before .before .before .before .before .loop-test .taken) (c .before .before .before .before .before .before .if2 .left) (c .before .before .before .step .last .0) (c .before .before .before .step .result) (from-part (c .before .before .before .before .before .before .before .before .before .before .before .before .before .before .before .args .records .now) (c .before .before .before .before .before .before .before .before .loop .place) (c .before .before .before .step .result) (c .before .before .before .before .before .before .before .before .loop .mem) (c .before .before .before .step .last .0) (c .before .before .before .step .ensures)) (c .if3 .taken)
 
-put-requires : tie.Need-put-requires Inv-loop μ-loop
-put-requires c κs = omega (arith, c .before .before .before .before .before .before .before .before .before .before .loop .inv .in-out, c .before .before .before .before .before .before .before .before .if2 .left)
+write-requires : tie.Need-write-requires Inv-loop μ-loop
+write-requires c κs = omega (arith, c .before .before .before .before .before .before .before .before .before .before .loop .inv .in-out, c .before .before .before .before .before .before .before .before .if2 .left)
 
 raise-requires : tie.Need-raise-requires Inv-loop μ-loop
 raise-requires c κs = search needs
@@ -85,7 +85,7 @@ loop-less : tie.Need-loop-less Inv-loop μ-loop
 loop-less c = omega (arith, nonzero _ (c .before .before .before .before .before .before .if3 .left))
 
 loop-again : tie.Need-loop-again Inv-loop μ-loop
-loop-again c = rw (c .before .before .before .put .ensures, c .raise .ensures) (turn (c .before .before .before .before .before .before .before .before .before .before .before .before .before .before .loop .inv) (c .before .before .before .before .before .before .before .before .before .before .before .before .before .loop-test .taken) (c .before .before .before .before .before .before .before .before .before .before .before .before .if2 .left) (c .before .before .before .before .before .before .before .before .before .step .last .0) (c .before .before .before .before .before .before .before .before .before .step .result) (from-part (c .before .before .before .before .before .before .before .before .before .before .before .before .before .before .before .before .before .before .before .before .before .args .records .now) (c .before .before .before .before .before .before .before .before .before .before .before .before .before .before .loop .place) (c .before .before .before .before .before .before .before .before .before .step .result) (c .before .before .before .before .before .before .before .before .before .before .before .before .before .before .loop .mem) (c .before .before .before .before .before .before .before .before .before .step .last .0) (c .before .before .before .before .before .before .before .before .before .step .ensures)) (c .before .before .before .before .before .before .if3 .left))
+loop-again c = rw (c .before .before .before .write .ensures, c .raise .ensures) (turn (c .before .before .before .before .before .before .before .before .before .before .before .before .before .before .loop .inv) (c .before .before .before .before .before .before .before .before .before .before .before .before .before .loop-test .taken) (c .before .before .before .before .before .before .before .before .before .before .before .before .if2 .left) (c .before .before .before .before .before .before .before .before .before .step .last .0) (c .before .before .before .before .before .before .before .before .before .step .result) (from-part (c .before .before .before .before .before .before .before .before .before .before .before .before .before .before .before .before .before .before .before .before .before .args .records .now) (c .before .before .before .before .before .before .before .before .before .before .before .before .before .before .loop .place) (c .before .before .before .before .before .before .before .before .before .step .result) (c .before .before .before .before .before .before .before .before .before .before .before .before .before .before .loop .mem) (c .before .before .before .before .before .before .before .before .before .step .last .0) (c .before .before .before .before .before .before .before .before .before .step .ensures)) (c .before .before .before .before .before .before .if3 .left))
 
 same-length-6 : tie.Need-same-length-6 Inv-loop μ-loop
 same-length-6 c = c .before .loop .inv .after .past .len
@@ -117,7 +117,7 @@ run-spec =
     same-length-4
     same-length-5
     returns-3
-    put-requires
+    write-requires
     raise-requires
     add-place
     add-answered

@@ -1,11 +1,11 @@
--- `calls::run::put`: seven stores in a row. Assumes nothing.
+-- `seven::write`: seven stores in a row. Assumes nothing.
 use native.Mathlib.Omega.{arith}
 use lib.ListN.{length-set}
 use mathlib.Core.Path.{_≡_}
 use Prim.Native.Nat.{suc, _+_}
 use borrow.Author.Needs.{needs}
-use Rattle.calls.proofs.run.put.Statement.{statement}
-use Rattle.calls.proofs.run.put.Tie as tie
+use Rattle.seven.proofs.write.Statement.{statement}
+use Rattle.seven.proofs.write.Tie as tie
 
 mul-answers : tie.Need-mul-answers
 mul-answers c = search needs
@@ -81,8 +81,8 @@ returns c =
     let e₆ : w + 6 ≡ suc (suc (suc (suc (suc (suc w))))) = omega arith in
     simp (e₁, e₂, e₃, e₄, e₅, e₆)
 
-pub put-spec : {M : Type 1} → statement M
-put-spec =
+pub write-spec : {M : Type 1} → statement M
+write-spec =
     tie.close
     (tie.spec
     mul-answers

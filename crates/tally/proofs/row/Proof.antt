@@ -1,8 +1,8 @@
--- `calls::run::row`: the row of an accepted order, or that of its code. Assumes nothing.
+-- `tally::row`: the row of an accepted order, or that of its code. Assumes nothing.
 use native.Mathlib.Omega.{arith}
 use borrow.Author.Tests.{eq-eqb, ne-eqb}
-use Rattle.calls.proofs.run.row.Statement.{statement}
-use Rattle.calls.proofs.run.row.Tie as tie
+use Rattle.tally.proofs.row.Statement.{statement}
+use Rattle.tally.proofs.row.Tie as tie
 
 returns : tie.Need-returns
 returns c = simp (eq-eqb _ _ (c .if1 .taken))

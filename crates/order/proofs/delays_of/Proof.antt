@@ -1,12 +1,12 @@
--- `calls::open::delays_of`: after i turns the first i delays are there. Assumes nothing.
+-- `order::delays_of`: after i turns the first i delays are there. Assumes nothing.
 use mathlib.Core.Path.{_≡_, refl}
 use Prim.Native.Nat.{ℕ, _-_, _≤_}
 use native.Mathlib.Omega.{arith}
 use borrow.Author.Needs.{needs}
 use lib.ListN.{length, length-set}
-use Rattle.calls.proofs.Delays.{First, none-yet, one-more, all-of-them}
-use Rattle.calls.proofs.open.delays_of.Statement.{statement}
-use Rattle.calls.proofs.open.delays_of.Tie as tie
+use Rattle.order.proofs.Delays.{First, none-yet, one-more, all-of-them}
+use Rattle.order.proofs.delays_of.Statement.{statement}
+use Rattle.order.proofs.delays_of.Tie as tie
 
 abbrev Inv-loop : tie.InvT-loop
 Inv-loop bytes n delays₀ i₀ delays i = (i ≤ n) × (length delays ≡ 16) × First i n delays bytes

@@ -21,7 +21,7 @@ use Rattle.rule.specs.Starts.{starts}
 use Rattle.rule.specs.Choice.{Choice, nothing, taken}
 use Rattle.rule.specs.Answer.{Reply, booked, swept, refused, seven, numbersOf}
 use Rattle.rule.specs.Codes.{bookingCode, sweepCode, chosenReply, tooMany}
-use Rattle.tally.specs.Counts.{rowOf, raised}
+use Rattle.tally.specs.Counts.{rowOf, rowAt, raised}
 use Rattle.order.specs.declared.Record.{Record}
 use Rattle.order.specs.declared.Record.the-variants.{Opening, Booking, Sweep, Refused}
 use Rattle.order.proofs.Record.{the-type}
@@ -37,10 +37,9 @@ use Rattle.memory.specs.Holds.{Holds, After}
 use Rattle.memory.proofs.Whole.{after-none}
 use Rattle.booking.specs.Book.{Books}
 use Rattle.sweeping.specs.Swept.{Sweeps}
-use Rattle.calls.specs.declared.act.Done.{Done}
-use Rattle.calls.specs.declared.run.Single.{Single}
-use Rattle.calls.specs.Run.{stepOn, unused}
-use Rattle.calls.specs.Calls.{Unused, rowAt, StepsTo, counted, Steps}
+use Rattle.stepping.specs.declared.Single.{Single}
+use Rattle.stepping.specs.Step.{stepOn, unused}
+use Rattle.stepping.specs.Steps.{StepsOn, Steps}
 
 -- ---- the tally's row of an order's reply
 abbrev codeOf : Reply → ℕ
@@ -81,7 +80,7 @@ sweep-row s moment = go (sweepCode (s .settings) (s .floor) moment)
 -- ---- an order
 module _ (bytes : List ℕ) (a : Answer) (u k w : ℕ) (o : Order) (q : reading bytes ≡ order u o) (ek : k ≡ rowAt (a .code) w) (m m′ : List ℕ) where
   ordered : (s : State) → Sound s → InRange o → rowAt (codeOf ((act s o) .reply)) w ≡ rowOf ((act s o) .reply) → numbersOf a ≡ seven ((act s o) .reply) ((act s o) .count) → After m m′ ((act s o) .after)
-      → (t : Tally) → StepsTo (stepOn s t (reading bytes)) (counted t (record { answer = a; used = u; row = k })) m m′
+      → (t : Tally) → StepsOn (stepOn s t (reading bytes)) t (record { answer = a; used = u; row = k }) m m′
   ordered s so ir e n f t =
       let c : a .code ≡ codeOf ((act s o) .reply) = ap (λ (l : List ℕ). getD l 0 0) n ∙ code-first ((act s o) .reply) ((act s o) .count) in
       rw q (record {
@@ -108,19 +107,16 @@ module _ (bytes : List ℕ) (r : Record) (x : Reads bytes r) where
     swept-steps a k m m′ f ek s o h = ordered bytes a u k 1 (sweep b) (sym (x .is) ∙ ap (meant bytes) q) ek m m′ s o sweep-in (sweep-row s b) (f s o h .answer) (f s o h .after)
 
 -- ---- no order
-pub unused-steps : (s : State) (t : Tally) (d : Done) (m m′ : List ℕ) → Sound s → After m m′ s → Unused 11 t d → (y : Reading) → stepOn s t y ≡ unused s t 11 → StepsTo (stepOn s t y) d m m′
-unused-steps s t d m m′ o h n y e = rw e (record { numbers = n .numbers; used = n .used; tally = n .tally; after = h; sound = o })
-
 abbrev idle : Single
 idle = record { answer = record { code = 11; channel = 0; line = 0; start = 0; finish = 0; count = 0; dropped = 0 }; used = 0; row = 10 }
 
-idle-unused : (t : Tally) → Unused 11 t (counted t idle)
+idle-steps : (s : State) (t : Tally) (m : List ℕ) → Sound s → After m m s → (y : Reading) → stepOn s t y ≡ unused s t 11 → StepsOn (stepOn s t y) t idle m m
 unfolding raised
-idle-unused t = record { numbers = refl; used = refl; tally = refl }
+idle-steps s t m o h y e = rw e (record { numbers = refl; used = refl; tally = refl; after = h; sound = o })
 
 -- any other record: its tag is neither a booking's nor a sweep's
 pub no-order : (bytes : List ℕ) (r : Record) → Reads bytes r → OneOf (0 ∷ 3 ∷ []) (tagOf the-type r) → (m : List ℕ) → Steps bytes idle m m
-no-order bytes (Opening c l p f u) x n m s o h t = unused-steps s t (counted t idle) m m o (after-none h) (idle-unused t) (reading bytes) (rw (sym (x .is)))
+no-order bytes (Opening c l p f u) x n m s o h t = idle-steps s t m o (after-none h) (reading bytes) (rw (sym (x .is)))
 no-order bytes (Booking a b l u) x n m s o h t = absurd (miss (0 ∷ 3 ∷ []) 1 tt n)
 no-order bytes (Sweep a u) x n m s o h t = absurd (miss (0 ∷ 3 ∷ []) 2 tt n)
-no-order bytes (Refused k) x n m s o h t = unused-steps s t (counted t idle) m m o (after-none h) (idle-unused t) (reading bytes) (rw (sym (x .is), x .narrow))
+no-order bytes (Refused k) x n m s o h t = idle-steps s t m o (after-none h) (reading bytes) (rw (sym (x .is), x .narrow))

@@ -1,8 +1,8 @@
--- `calls::run::step`: the reader's case, then the booking's or the sweep's own promise. Assumes nothing.
-use Rattle.calls.proofs.Stepping.{booking-in, booked-steps, sweep-in, swept-steps, no-order}
+-- `stepping::step`: the reader's case, then the booking's or the sweep's own promise. Assumes nothing.
+use Rattle.stepping.proofs.Stepping.{booking-in, booked-steps, sweep-in, swept-steps, no-order}
 use borrow.Author.Needs.{needs}
-use Rattle.calls.proofs.run.step.Statement.{statement}
-use Rattle.calls.proofs.run.step.Tie as tie
+use Rattle.stepping.proofs.step.Statement.{statement}
+use Rattle.stepping.proofs.step.Tie as tie
 
 read-requires : tie.Need-read-requires
 read-requires c κs = search needs
