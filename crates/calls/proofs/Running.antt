@@ -36,6 +36,10 @@ counted t x = record { tally = raised t (x .row); acted = record { answer = x .a
 counted-steps : (y : Stepped) (t : Tally) (x : Single) (m m′ : List ℕ) → StepsOn y t x m m′ → StepsTo y (counted t x) m m′
 counted-steps y t x m m′ z = record { numbers = z .numbers; used = z .used; tally = z .tally; after = z .after; sound = z .sound }
 
+-- what is said of y, said of what is equal to it
+pub runs-as : (t : Tally) (bytes m m′ out out′ : List ℕ) (x y : RunDone) → x ≡ y → Runs t bytes y m m′ out out′ → Runs t bytes x m m′ out out′
+runs-as t bytes m m′ out out′ x y e a = subst (λ z. Runs t bytes z m m′ out out′) (sym e) a
+
 -- ---- the definition of a run, a record at a time
 module _ (n : ℕ) (s : State) (t : Tally) (room place : ℕ) where
   next : (bytes : List ℕ) (u : ℕ) (o : Order) → 1 ≤ length bytes → 7 ≤ room → reading bytes ≡ order u o

@@ -1,4 +1,5 @@
 // A run of records, seven numbers of answer for each (specs/Calls.antt, `Runs`). The memory is checked once, at the start.
+ghost use mathlib.Core.Path.{_≡_};
 ghost use Rattle.calls.specs.Calls.{Runs};
 use tally::Tally;
 
@@ -16,18 +17,26 @@ pub struct RunDone {
     pub ran: Ran,
 }
 
+// What a run gives where it ends.
+fn ended(tally: Tally, code: u64, place: usize, answered: usize) -> RunDone
+    ensures { λ x. ⌜ x ≡ record { tally = tally; ran = record { code = code; place = place; answered = answered } } ⌝ }
+{
+    RunDone {
+        tally,
+        ran: Ran {
+            code,
+            place,
+            answered,
+        },
+    }
+}
+
+// Record after record on a whole link, until the bytes are at their end, an answer has no room or a record cannot be read.
 pub fn run(mem: &mut [u8], tally: Tally, records: &[u8], answers: &mut [u64]) -> RunDone
     ensures { λ x. ⌜ Runs tally (now (records .entry)) x (now (mem .entry)) (now (mem .exit)) (now (answers .entry)) (now (answers .exit)) ⌝ }
 {
     if !whole::whole(mem) {
-        return RunDone {
-            tally,
-            ran: Ran {
-                code: 2,
-                place: 0,
-                answered: 0,
-            },
-        };
+        return ended(tally, 2, 0, 0);
     }
     let mut t = tally;
     let mut place = 0;
@@ -35,26 +44,12 @@ pub fn run(mem: &mut [u8], tally: Tally, records: &[u8], answers: &mut [u64]) ->
     let mut written = 0;
     while place < records.len() {
         if answers.len() - written < 7 {
-            return RunDone {
-                tally: t,
-                ran: Ran {
-                    code: 12,
-                    place,
-                    answered,
-                },
-            };
+            return ended(t, 12, place, answered);
         }
         let x = stepping::step(mem, &records[place..]);
         let used = x.used;
         if used == 0 {
-            return RunDone {
-                tally: t,
-                ran: Ran {
-                    code: 11,
-                    place,
-                    answered,
-                },
-            };
+            return ended(t, 11, place, answered);
         }
         let answer = x.answer;
         seven::write(answers, written, answer);
@@ -63,12 +58,5 @@ pub fn run(mem: &mut [u8], tally: Tally, records: &[u8], answers: &mut [u64]) ->
         answered += 1;
         written += 7;
     }
-    RunDone {
-        tally: t,
-        ran: Ran {
-            code: 0,
-            place,
-            answered,
-        },
-    }
+    ended(t, 0, place, answered)
 }

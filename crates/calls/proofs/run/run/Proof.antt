@@ -8,7 +8,7 @@ use borrow.Author.Tests.{not-true, not-false}
 use lib.ListN.{length}
 use Rattle.numbers.specs.Case.{case-le}
 use Rattle.calls.proofs.Deciding.{yes-whole, no-whole}
-use Rattle.calls.proofs.Running.{Along, start, whole-now, run-done, run-full, run-stuck, turn, from-part}
+use Rattle.calls.proofs.Running.{runs-as, Along, start, whole-now, run-done, run-full, run-stuck, turn, from-part}
 use Rattle.calls.proofs.run.run.Statement.{statement}
 use Rattle.calls.proofs.run.run.Tie as tie
 
@@ -27,8 +27,11 @@ whole-requires c κs = search needs
 same-length : tie.Need-same-length Inv-loop μ-loop
 same-length c = refl
 
+ended-requires : tie.Need-ended-requires Inv-loop μ-loop
+ended-requires c κs = search needs
+
 returns : tie.Need-returns Inv-loop μ-loop
-returns c = inr (no-whole _ (c .before .whole .result) (c .before .whole .ensures) (not-true _ (c .if1 .taken)), record { answer = refl; same = refl; slice = refl })
+returns c = runs-as _ (c .before .before .before .before .before .before .before .args .records .now) _ _ _ _ _ _ (c .ended .ensures) (inr (no-whole _ (c .before .before .whole .result) (c .before .before .whole .ensures) (not-true _ (c .before .if1 .taken)), record { answer = refl; same = refl; slice = refl }))
 
 loop-holds : tie.Need-loop-holds Inv-loop μ-loop
 loop-holds c = start _ _ _ _ (yes-whole _ (c .before .whole .result) (c .before .whole .ensures) (not-false _ (c .if1 .left)))
@@ -37,13 +40,16 @@ sub-if2 : tie.Need-sub-if2 Inv-loop μ-loop
 sub-if2 c = omega (arith, c .before .loop .inv .in-out)
 
 same-length-2 : tie.Need-same-length-2 Inv-loop μ-loop
-same-length-2 c = c .before .before .loop .inv .after .past .len
+same-length-2 c = c .before .before .before .loop .inv .after .past .len
 
 same-length-3 : tie.Need-same-length-3 Inv-loop μ-loop
-same-length-3 c = c .before .before .loop .inv .long
+same-length-3 c = c .before .before .before .loop .inv .long
+
+ended-requires-2 : tie.Need-ended-requires-2 Inv-loop μ-loop
+ended-requires-2 c κs = search needs
 
 returns-2 : tie.Need-returns-2 Inv-loop μ-loop
-returns-2 c = run-full (c .before .before .loop .inv) (c .before .loop-test .taken) (c .if2 .taken)
+returns-2 c = runs-as _ (c .before .before .before .before .before .before .before .before .before .before .args .records .now) _ _ _ _ _ _ (c .ended2 .ensures) (run-full (c .before .before .before .loop .inv) (c .before .before .loop-test .taken) (c .before .if2 .taken))
 
 sub-step : tie.Need-sub-step Inv-loop μ-loop
 sub-step c = omega arith
@@ -58,13 +64,16 @@ step-requires : tie.Need-step-requires Inv-loop μ-loop
 step-requires c κs = whole-now (c .before .before .before .before .loop .inv)
 
 same-length-4 : tie.Need-same-length-4 Inv-loop μ-loop
-same-length-4 c = c .before .before .before .step .kept .0 ∙ c .before .before .before .before .before .before .before .before .loop .inv .after .past .len
+same-length-4 c = c .before .before .before .before .step .kept .0 ∙ c .before .before .before .before .before .before .before .before .before .loop .inv .after .past .len
 
 same-length-5 : tie.Need-same-length-5 Inv-loop μ-loop
-same-length-5 c = c .before .before .before .before .before .before .before .before .loop .inv .long
+same-length-5 c = c .before .before .before .before .before .before .before .before .before .loop .inv .long
+
+ended-requires-3 : tie.Need-ended-requires-3 Inv-loop μ-loop
+ended-requires-3 c κs = search needs
 
 returns-3 : tie.Need-returns-3 Inv-loop μ-loop
-returns-3 c = run-stuck (c .before .before .before .before .before .before .before .before .loop .inv) (c .before .before .before .before .before .before .before .loop-test .taken) (c .before .before .before .before .before .before .if2 .left) (c .before .before .before .step .last .0) (c .before .before .before .step .result) (from-part (c .before .before .before .before .before .before .before .before .before .before .before .before .before .before .before .args .records .now) (c .before .before .before .before .before .before .before .before .loop .place) (c .before .before .before .step .result) (c .before .before .before .before .before .before .before .before .loop .mem) (c .before .before .before .step .last .0) (c .before .before .before .step .ensures)) (c .if3 .taken)
+returns-3 c = runs-as _ (c .before .before .before .before .before .before .before .before .before .before .before .before .before .before .before .before .args .records .now) _ _ _ _ _ _ (c .ended3 .ensures) (run-stuck (c .before .before .before .before .before .before .before .before .before .loop .inv) (c .before .before .before .before .before .before .before .before .loop-test .taken) (c .before .before .before .before .before .before .before .if2 .left) (c .before .before .before .before .step .last .0) (c .before .before .before .before .step .result) (from-part (c .before .before .before .before .before .before .before .before .before .before .before .before .before .before .before .before .args .records .now) (c .before .before .before .before .before .before .before .before .before .loop .place) (c .before .before .before .before .step .result) (c .before .before .before .before .before .before .before .before .before .loop .mem) (c .before .before .before .before .step .last .0) (c .before .before .before .before .step .ensures)) (c .before .if3 .taken))
 
 write-requires : tie.Need-write-requires Inv-loop μ-loop
 write-requires c κs = omega (arith, c .before .before .before .before .before .before .before .before .before .before .loop .inv .in-out, c .before .before .before .before .before .before .before .before .if2 .left)
@@ -88,13 +97,16 @@ loop-again : tie.Need-loop-again Inv-loop μ-loop
 loop-again c = rw (c .before .before .before .write .ensures, c .raise .ensures) (turn (c .before .before .before .before .before .before .before .before .before .before .before .before .before .before .loop .inv) (c .before .before .before .before .before .before .before .before .before .before .before .before .before .loop-test .taken) (c .before .before .before .before .before .before .before .before .before .before .before .before .if2 .left) (c .before .before .before .before .before .before .before .before .before .step .last .0) (c .before .before .before .before .before .before .before .before .before .step .result) (from-part (c .before .before .before .before .before .before .before .before .before .before .before .before .before .before .before .before .before .before .before .before .before .args .records .now) (c .before .before .before .before .before .before .before .before .before .before .before .before .before .before .loop .place) (c .before .before .before .before .before .before .before .before .before .step .result) (c .before .before .before .before .before .before .before .before .before .before .before .before .before .before .loop .mem) (c .before .before .before .before .before .before .before .before .before .step .last .0) (c .before .before .before .before .before .before .before .before .before .step .ensures)) (c .before .before .before .before .before .before .if3 .left))
 
 same-length-6 : tie.Need-same-length-6 Inv-loop μ-loop
-same-length-6 c = c .before .loop .inv .after .past .len
+same-length-6 c = c .before .before .loop .inv .after .past .len
 
 same-length-7 : tie.Need-same-length-7 Inv-loop μ-loop
-same-length-7 c = c .before .loop .inv .long
+same-length-7 c = c .before .before .loop .inv .long
+
+ended-requires-4 : tie.Need-ended-requires-4 Inv-loop μ-loop
+ended-requires-4 c κs = search needs
 
 returns-4 : tie.Need-returns-4 Inv-loop μ-loop
-returns-4 c = run-done (c .before .loop .inv) (c .loop-test .left)
+returns-4 c = runs-as _ (c .before .before .before .before .before .before .before .before .before .args .records .now) _ _ _ _ _ _ (c .ended4 .ensures) (run-done (c .before .before .loop .inv) (c .before .loop-test .left))
 
 pub run-spec : {M : Type 1} → statement M
 run-spec =
@@ -103,10 +115,12 @@ run-spec =
     Inv-loop
     μ-loop
     whole-requires
+    ended-requires
     same-length
     returns
     loop-holds
     sub-if2
+    ended-requires-2
     same-length-2
     same-length-3
     returns-2
@@ -114,6 +128,7 @@ run-spec =
     part-step-start
     part-step-end
     step-requires
+    ended-requires-3
     same-length-4
     same-length-5
     returns-3
@@ -124,6 +139,7 @@ run-spec =
     add-written
     loop-less
     loop-again
+    ended-requires-4
     same-length-6
     same-length-7
     returns-4)
