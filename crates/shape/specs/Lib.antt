@@ -1,6 +1,7 @@
 pub mod Tree
 pub mod Side
 pub mod Arrange
+pub mod Clear
 pub mod Visits
 pub mod TreeLaws
 pub mod PlaceLaws
