@@ -11,6 +11,7 @@ pub mod SideLaws
 pub mod TurnLaws
 pub mod ChangeLaws
 pub mod BalanceLaws
+pub mod JoinLaws
 pub mod EvenLaws
 pub mod SizeLaws
 pub mod ListLaws

@@ -1,6 +1,6 @@
 -- What an order does to a state: the answer, its count, and the state after, as one total function.
 -- The search is the published one (shape's Visits), so the count is the published count by definition.
-use mathlib.Core.List.{List, [], _∷_}
+use mathlib.Core.List.{List, [], _∷_, _++_}
 use mathlib.Core.Bool.{Bool, true, false}
 use Prim.Native.Nat.{ℕ, zero, suc, _+_}
 use lib.Dec.{leb}
@@ -9,15 +9,15 @@ use Rattle.rule.specs.Settings.{Settings}
 use Rattle.rule.specs.Fit.{hold, free}
 use Rattle.rule.specs.Starts.{Start, starts}
 use Rattle.rule.specs.Choice.{Choice, nothing, taken}
-use Rattle.rule.specs.Kept.{stays, kept}
+use Rattle.rule.specs.Kept.{least, stays, kept}
 use Rattle.rule.specs.Order.{Order, booking, sweep}
 use Rattle.rule.specs.Answer.{Reply, booked, swept, refused}
 use Rattle.rule.specs.Codes.{bookingCode, sweepCode, chosenReply}
 use Rattle.rule.specs.Key.{keyOf, startOf, channelOf}
 use Rattle.shape.specs.Tree.{Tree, size, weight}
 use Rattle.shape.specs.Visits.{Out, none, some, Result, published}
-use Rattle.shape.specs.Least.{least}
-use Rattle.state.specs.State.{State, shorten, add, drop, with-floor}
+use Rattle.shape.specs.Clear.{Rest, gone, rest, clear, freed}
+use Rattle.state.specs.State.{State, with-tree, shorten, add, drop, with-floor}
 
 -- ---- the search over the starts tried, in their order, with its count
 pub data Sought : Type 0 where
@@ -76,21 +76,22 @@ abbrev pub bookAs : (code : ℕ) → State → (r l m : ℕ) → Outcome
 bookAs zero s r l m = bookFound s l (seek (s .tree) (hold (s .settings) l) (starts (s .settings .delays) r (hold (s .settings) l) m))
 bookAs (suc x) s r l m = refusal s (suc x)
 
--- ---- a sweep: as many times as there are voids to drop, the leftmost of those with the least end goes
+-- ---- a sweep: the voids that end too early go, all at once
+-- how many they are
 abbrev pub toDrop : (moment : ℕ) → Tree → ℕ
 toDrop moment t = weight (λ p k e. pick (stays moment e) 0 1) (λ q. 0) t
 
-abbrev pub dropLeast : State → State
-dropLeast s = drop s (least (s .tree) .1)
+-- (a link always keeps a void)
+abbrev pub leftOf : Tree → Rest → Tree
+leftOf t gone = t
+leftOf t (rest u) = u
 
-abbrev pub dropMany : (n : ℕ) → State → State
-dropMany zero s = s
-dropMany (suc n) s = dropMany n (dropLeast s)
+-- the places that come free are the first spare ones
+unfoldable pub cleared : State → (moment : ℕ) → State
+cleared s moment = with-tree s (leftOf (s .tree) (clear (least moment) (s .tree))) (freed (least moment) (s .tree) ++ s .spares)
 
 abbrev pub sweepAs : (code : ℕ) → State → (moment : ℕ) → Outcome
-sweepAs zero s moment =
-    let n = toDrop moment (s .tree) in
-    record { reply = swept n; count = 0; after = with-floor (dropMany n s) moment }
+sweepAs zero s moment = record { reply = swept (toDrop moment (s .tree)); count = 0; after = with-floor (cleared s moment) moment }
 sweepAs (suc x) s moment = refusal s (suc x)
 
 abbrev pub act : State → Order → Outcome

@@ -25,7 +25,7 @@ mark-self p k e = rw (true-self p, true-self k, true-self e)
     true-self : (x : ℕ) → eqb x x ≡ true
     true-self x = elim (case-eq x x) [ inl y ↦ y .1 | inr y ↦ absurd (y .0 refl) ]
 
-mark-is : (p k e p′ k′ e′ : ℕ) → 1 ≤ mark p k e p′ k′ e′ → (p ≡ p′) × (k ≡ k′) × (e ≡ e′)
+pub mark-is : (p k e p′ k′ e′ : ℕ) → 1 ≤ mark p k e p′ k′ e′ → (p ≡ p′) × (k ≡ k′) × (e ≡ e′)
 unfolding mark
 mark-is p k e p′ k′ e′ = elim (case-eq p p′) [
   | inl x ↦ rw (x .1) (elim (case-eq k k′) [

@@ -10,6 +10,7 @@ pub mod Life
 pub mod Bordered
 pub mod LongestLaws
 pub mod LeafLaws
+pub mod ClearLaws
 pub mod OpenEndLaws
 pub mod PlaceLaws
 pub mod KeptLaws
@@ -36,5 +37,4 @@ pub mod BoundLaws
 pub mod WidenLaws
 pub mod OpenLaws
 pub mod HistoryLaws
-pub mod DropLaws
 pub mod SettingsLaws

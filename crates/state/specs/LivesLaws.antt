@@ -18,12 +18,12 @@ use Rattle.shape.specs.Visits.{some, published}
 use Rattle.shape.specs.SearchLaws.{search-some}
 use Rattle.state.specs.Room.{Room}
 use Rattle.state.specs.State.{State}
-use Rattle.state.specs.Act.{Sought, nowhere, found, seek, split, bookFound, bookAs, sweepAs, act, dropMany, toDrop}
+use Rattle.state.specs.Act.{Sought, nowhere, found, seek, split, bookFound, bookAs, cleared, sweepAs, act}
 use Rattle.state.specs.Sound.{mostKey}
 use Rattle.state.specs.Places.{Placed}
 use Rattle.state.specs.SplitLaws.{Split, split-ok, split-within}
 use Rattle.state.specs.BookLaws.{room, book-kept}
-use Rattle.state.specs.SweepLaws.{later, drop-many, raised}
+use Rattle.state.specs.SweepLaws.{later, clear-dropped, raised}
 use Rattle.state.specs.FoundLaws.{booking-goes, sweep-goes, case-full, Fair, Found, booking-found}
 use Rattle.state.specs.Range.{InRange}
 use Rattle.state.specs.Lives.{Lives, holds, levels}
@@ -94,14 +94,13 @@ module _ (F₀ floor : ℕ) (g : Settings) (H : ℕ → ℕ → ℕ) (s : State)
       go : (code : ℕ) → sweepCode (s .settings) (s .floor) moment ≡ code
           → let y = sweepAs code s moment in Lives F₀ (levels (sweep moment) (y .reply) floor) g H (y .after)
       go zero q =
-          let n = toDrop moment (s .tree) in
           let up = least-up (s .floor) moment (sweep-goes (s .settings) (s .floor) moment q) in
           let K = later F₀ (least (s .floor)) (least moment) (least (s .floor)) (g .channels) H (s .tree) up (L .kept) in
           let o : least moment ≤ openEnd = omega (arith, least-most moment) in
-          let D = drop-many moment F₀ (least (s .floor)) (g .channels) H o early n s K refl in
+          let D = clear-dropped moment F₀ (least (s .floor)) (g .channels) H o early s K in
           let P = D .placed (L .placed) in
           record {
-            kept = raised moment F₀ (least (s .floor)) (g .channels) H o early ((dropMany n s) .tree) (D .kept) (D .none);
+            kept = raised moment F₀ (least (s .floor)) (g .channels) H o early ((cleared s moment) .tree) (D .kept) (D .none);
             settings = D .settings ∙ L .settings;
             level = refl;
             floor = a;

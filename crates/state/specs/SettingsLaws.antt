@@ -10,7 +10,7 @@ use Rattle.rule.specs.Answer.{Reply, booked, swept, refused}
 use Rattle.rule.specs.Codes.{bookingCode, sweepCode, chosenReply}
 use Rattle.shape.specs.Tree.{size}
 use Rattle.state.specs.State.{State, shorten, add, drop}
-use Rattle.state.specs.Act.{Sought, nowhere, found, seek, choice, split, carried, bookAs, toDrop, dropLeast, dropMany, sweepAs, act}
+use Rattle.state.specs.Act.{Sought, nowhere, found, seek, choice, split, carried, bookAs, cleared, sweepAs, act}
 use Rattle.state.specs.KeptLaws.{case-kept}
 
 split-settings : (s : State) (k e r f : ℕ) → (split s k e r f) .settings ≡ s .settings
@@ -26,10 +26,9 @@ carried-settings s h (booked c i r f) nowhere = refl
 carried-settings s h (swept d) o = refl
 carried-settings s h (refused x) o = refl
 
-drop-settings : (n : ℕ) (s : State) → (dropMany n s) .settings ≡ s .settings
-unfolding drop
-drop-settings zero s = refl
-drop-settings (suc n) s = drop-settings n (dropLeast s)
+pub cleared-settings : (s : State) (moment : ℕ) → (cleared s moment) .settings ≡ s .settings
+unfolding cleared
+cleared-settings s moment = refl
 
 pub act-settings : (s : State) (o : Order) → (act s o) .after .settings ≡ s .settings
 act-settings s (booking r l m) = go (bookingCode (s .settings) (s .floor) r l m)
@@ -43,5 +42,5 @@ act-settings s (booking r l m) = go (bookingCode (s .settings) (s .floor) r l m)
 act-settings s (sweep moment) = go (sweepCode (s .settings) (s .floor) moment)
   where
     go : (code : ℕ) → (sweepAs code s moment) .after .settings ≡ s .settings
-    go zero = drop-settings (toDrop moment (s .tree)) s
+    go zero = cleared-settings s moment
     go (suc c) = refl

@@ -1,37 +1,28 @@
--- A sweep keeps what every order keeps: it drops, one by one, the voids that do not stay, and no others.
+-- A sweep keeps what every order keeps: it drops the voids that do not stay, and no others.
 use mathlib.Core.Path.{_≡_, refl}
 use mathlib.Core.Logic.{inl, inr}
-use Prim.Native.Nat.{ℕ, zero, suc, _+_, _≤_, _<_}
+use mathlib.Core.List.{List, _++_}
+use Prim.Native.Nat.{ℕ, _+_, _≤_, _<_}
 use native.Mathlib.Omega.{arith}
+use lib.ListN.{length-append}
 use Rattle.numbers.specs.Case.{pick, case-le}
 use Rattle.rule.specs.Moments.{openEnd, lastMoment}
 use Rattle.rule.specs.Kept.{least, stays}
-use Rattle.shape.specs.Tree.{Tree, size, In}
-use Rattle.shape.specs.TreeLaws.{all-map, all-of, all-in}
-use Rattle.shape.specs.PlaceLaws.{weight-in, weight-some}
-use Rattle.shape.specs.Arrange.{remove}
-use Rattle.shape.specs.RemoveLaws.{Removed, remove-ok, removed-size}
-use Rattle.shape.specs.Least
-use Rattle.state.specs.State.{State, drop}
-use Rattle.state.specs.Act.{toDrop, dropLeast, dropMany}
+use Rattle.rule.specs.Key.{channelOf}
+use Rattle.shape.specs.Tree.{Tree, size, low, In}
+use Rattle.shape.specs.TreeLaws.{all-map, all-of, low-ends}
+use Rattle.shape.specs.PlaceLaws.{weight-in, size-weight}
+use Rattle.shape.specs.Clear.{rest, freed}
+use Rattle.state.specs.State.{State, with-tree}
+use Rattle.state.specs.Act.{toDrop, cleared}
 use Rattle.state.specs.Sound.{mostKey}
 use Rattle.state.specs.Places.{Placed}
 use Rattle.state.specs.Cover.{cov, cover}
 use Rattle.state.specs.TickLaws.{cov-no}
 use Rattle.state.specs.Bordered.{Bordered, Kept}
 use Rattle.state.specs.LongestLaws.{bordered}
-use Rattle.state.specs.OpenEndLaws.{another}
-use Rattle.state.specs.PlaceLaws.{placed-drop}
-
--- 1 for an end with which a void does not stay
-abbrev pub ended : (moment e : ℕ) → ℕ
-ended moment e = pick (stays moment e) 0 1
-
-pub gone : (moment e : ℕ) → e < least moment → ended moment e ≡ 1
-gone moment e h = elim (case-le (least moment) e) [ inl y ↦ absurd (omega arith) | inr y ↦ rw (y .1) ]
-
-pub gone-is : (moment e : ℕ) → 1 ≤ ended moment e → e < least moment
-gone-is moment e = elim (case-le (least moment) e) [ inl y ↦ rw (y .1) (λ h. absurd (omega arith)) | inr y ↦ λ h. y .0 ]
+use Rattle.state.specs.OpenEndLaws.{open-end}
+use Rattle.state.specs.ClearLaws.{Cleared, among-append, none-lost, left-some, left-ordered, left-late, left-less, left-same}
 
 -- time goes on
 pub later : (F₀ F T G C : ℕ) (H : ℕ → ℕ → ℕ) (t : Tree) → F ≤ T → Kept F₀ F G C H t → Kept F₀ T G C H t
@@ -44,19 +35,6 @@ later F₀ F T G C H t h K = record {
   edges = K .edges;
 }
 
--- a void that is past may go
-forget : (F₀ F G C : ℕ) (H : ℕ → ℕ → ℕ) (t u : Tree) (p k e : ℕ) → Kept F₀ F G C H t → e < F → Removed 0 mostKey p k e t u → Kept F₀ F G C H u
-forget F₀ F G C H t u p k e K h R =
-    let S : (c s : ℕ) → cover u c s + cov c s p k e ≡ cover t c s = λ c s. omega (arith, R .weigh (cov c s) (λ q. 0)) in
-    record {
-      ordered = R .ord;
-      balanced = R .even;
-      once = λ c s a. omega (arith, K .once c s a, S c s);
-      full = λ c s a b d i. omega (arith, K .full c s a b d i, S c s, cov-no c s p k e (omega arith));
-      last = K .last;
-      edges = R .all (λ p k e. Bordered F₀ G C H k e) (all-map (λ p k e z n. z) t (K .edges));
-    }
-
 -- z is s without the voids that do not stay at the moment
 pub record Dropped (moment F₀ G C : ℕ) (H : ℕ → ℕ → ℕ) (s z : State) : Type 0 where
   pub kept : Kept F₀ (least moment) G C H (z .tree)
@@ -65,38 +43,43 @@ pub record Dropped (moment F₀ G C : ℕ) (H : ℕ → ℕ → ℕ) (s z : Stat
   pub fewer : size (z .tree) ≤ size (s .tree)
   pub settings : z .settings ≡ s .settings
 
+-- the places of a state, some of the tree's having come free
+pub placed-left : (s : State) (b : ℕ) (u : Tree) → Cleared b (s .tree) (rest u) (freed b (s .tree)) → Placed s → Placed (with-tree s u (freed b (s .tree) ++ s .spares))
+placed-left s b u C P = record {
+  all = λ z. omega (arith, P .all z, C .places z, among-append z (freed b (s .tree)) (s .spares));
+  many = omega (arith, P .many, C .many, length-append (freed b (s .tree)) (s .spares));
+}
+
 module _ (moment F₀ G C : ℕ) (H : ℕ → ℕ → ℕ) (f : least moment ≤ openEnd) (h : F₀ ≤ lastMoment) where
-  -- while there is a void to drop, the one with the least end is past, and not the last
-  pub record Next (t : Tree) : Type 0 where
-    pub past : Least.least t .2 < least moment
-    pub two : 2 ≤ size t
+  abbrev b : ℕ
+  b = least moment
 
-  pub drop-next : (t : Tree) → Kept F₀ (least moment) G C H t → 1 ≤ toDrop moment t → Next t
-  drop-next t K n =
-      let x = weight-some (λ p k e. ended moment e) t n in
-      let y = gone-is moment (x .end) (x .heavy) in
-      let z : Least.least t .2 < least moment = omega (arith, all-in _ t (Least.least-all t) (x .place) (x .key) (x .end) (x .inside)) in
-      record { past = z; two = another F₀ (least moment) G C H t K f h (Least.least t .0) (Least.least t .1) (Least.least t .2) (Least.least-in t) (omega arith) }
+  -- what is past may go
+  forget : (t u : Tree) (ps : List ℕ) → Kept F₀ b G C H t → Cleared b t (rest u) ps → Kept F₀ b G C H u
+  forget t u ps K L = record {
+    ordered = left-ordered b t u ps L 0 mostKey (K .ordered);
+    balanced = L .even .0;
+    once = λ c s a. omega (arith, K .once c s a, left-less b t u ps L (cov c s));
+    full = λ c s a i j k. omega (arith, K .full c s a i j k, left-same b t u ps L (cov c s) (λ p q e l. cov-no c s p q e (omega (arith, l, j))));
+    last = K .last;
+    edges = L .all (λ p k e. Bordered F₀ G C H k e) (all-map (λ p k e z n. z) t (K .edges));
+  }
 
-  pub drop-many : (n : ℕ) (s : State) → Kept F₀ (least moment) G C H (s .tree) → toDrop moment (s .tree) ≡ n → Dropped moment F₀ G C H s (dropMany n s)
-  unfolding drop
-  drop-many zero s K q = record { kept = K; none = q; placed = λ P. P; fewer = omega arith; settings = refl }
-  drop-many (suc n) s K q =
+  pub clear-dropped : (s : State) → Kept F₀ b G C H (s .tree) → Dropped moment F₀ G C H s (cleared s moment)
+  unfolding cleared
+  clear-dropped s K =
       let t = s .tree in
-      let p = Least.least t .0 in
-      let k = Least.least t .1 in
-      let e = Least.least t .2 in
-      let N = drop-next t K (omega arith) in
-      let R = remove-ok 0 mostKey p k e t (K .ordered) (K .balanced) (Least.least-in t) (N .two) in
-      let D = drop-many n (dropLeast s) (forget F₀ (least moment) G C H t (remove k t) p k e K (N .past) R)
-      (omega (arith, R .weigh (λ p k e. ended moment e) (λ q. 0), gone moment e (N .past))) in
-      record {
-        kept = D .kept;
-        none = D .none;
-        placed = λ P. D .placed (placed-drop s 0 mostKey (K .ordered) (K .balanced) P p k e (Least.least-in t) (N .two));
-        fewer = omega (arith, D .fewer, removed-size 0 mostKey p k e t (remove k t) R);
-        settings = D .settings;
-      }
+      let x = low-ends t in
+      let o = open-end F₀ b G C H t K f h (channelOf (x .key)) (bordered F₀ b G C H t K (x .place) (x .key) (low t) (x .inside) .channel) in
+      let u = left-some b t (o .place) (o .key) openEnd (K .balanced) (o .inside) f in
+      let L = u .2 in
+      rw (u .1) (record {
+        kept = forget t (u .0) (freed b t) K L;
+        none = none-lost b (λ p k e. 1) (u .0) (left-late b t (u .0) (freed b t) L);
+        placed = λ P. placed-left s b (u .0) L P;
+        fewer = omega (arith, left-less b t (u .0) (freed b t) L (λ p k e. 1), size-weight t, size-weight (u .0));
+        settings = refl;
+      })
 
   -- nothing that is left is past
   pub raised : (t : Tree) → Kept F₀ (least moment) G C H t → toDrop moment t ≡ 0 → Kept F₀ (least moment) (least moment) C H t
@@ -114,5 +97,5 @@ module _ (moment F₀ G C : ℕ) (H : ℕ → ℕ → ℕ) (f : least moment ≤
       stay : (p k e : ℕ) → In p k e t → least moment ≤ e
       stay p k e i = elim (case-le (least moment) e) [
         | inl y ↦ y .0
-        | inr y ↦ absurd (omega (arith, weight-in (λ p k e. ended moment e) (λ q. 0) t p k e i, gone moment e (y .0)))
+        | inr y ↦ absurd (let z : _≡_ {A = ℕ} (pick (stays moment e) 0 1) 1 = rw (y .1) in omega (arith, weight-in (λ p k e. pick (stays moment e) 0 1) (λ q. 0) t p k e i, z, q))
       ]
