@@ -1,26 +1,23 @@
 -- One void less, from program point to program point.
-use mathlib.Core.Path.{_≡_, refl, ap, _∙_}
+use mathlib.Core.Path.{_≡_, refl, _∙_}
 use mathlib.Core.List.{List, _∷_}
 use Prim.Native.Nat.{ℕ, _+_, _*_, _-_, _≤_, _<_}
 use native.Mathlib.Omega.{arith}
 use lib.ListN.{length, getD, set}
 use Rattle.numbers.specs.Words.{word, store}
-use Rattle.shape.specs.Tree.{Tree, same, uses, size, low}
-use Rattle.shape.specs.Least.{least}
+use Rattle.shape.specs.Tree.{Tree, same, uses, size}
 use Rattle.shape.specs.PlaceLaws.{same-self, inners-uses}
 use Rattle.shape.specs.Arrange.{remove}
-use Rattle.node.specs.declared.Node.{Node}
 use Rattle.node.specs.Layout.{Within, nodeAt, Saved}
-use Rattle.node.proofs.Reps.{rep-within, seen, within, tall}
+use Rattle.node.proofs.Reps.{rep-within, tall}
 use Rattle.tracing.specs.Alone.{Alone}
 use Rattle.rising.specs.declared.Cut.{Cut}
 use Rattle.rising.specs.Changes.{Shrunk, Removes}
-use Rattle.tree.specs.OnWays.{Ordered, RemovesFirst}
 use Rattle.state.specs.State.{State, first, places, drop}
-use Rattle.state.specs.Sound.{among, below, mostKey}
+use Rattle.state.specs.Sound.{among, below}
 use Rattle.memory.specs.Header.{header}
 use Rattle.memory.specs.Holds.{spareNode, After}
-use Rattle.memory.specs.Steps.{Link, Removal, Lined}
+use Rattle.memory.specs.Steps.{Link, Removal}
 use Rattle.memory.specs.Part.{Part}
 use Rattle.memory.proofs.Parts.{below-in, below-most, part-first, part-put, part-tree, part-give, opened, closed}
 use Rattle.shape.specs.SizeLaws.{size-remove, tall-node}
@@ -43,23 +40,8 @@ module _ (m : List ℕ) (s : State) (L : Link m s) (t : ℕ) (e : t ≡ word m 5
   pub remove-pre : 2 ≤ size (s .tree) → (1 ≤ nodeAt m t .height) × Alone m t
   remove-pre some = (omega (arith, tall (sole m s L t e .stands), tall-node (s .tree) some), alone m s L t e)
 
-  -- the least end, by the root's node
-  pub least-read : (x : Node) → x ≡ nodeAt m t → x .low ≡ low (s .tree)
-  least-read x ex = ap (λ (z : Node). z .low) (ex ∙ seen (sole m s L t e .stands))
-
-  pub root-in : Within m t
-  root-in = within (sole m s L t e .stands)
-
   pub removal : (k : ℕ) (c : Cut) (m1 : List ℕ) → 2 ≤ size (s .tree) → Removes t k c m m1 → Removal c m s k m1
   removal k c m1 some f = record { link = L; two = some; cut = f (s .tree) (sole m s L t e) }
-
--- the void that ends first
-module _ (bound : ℕ) (m : List ℕ) (s : State) (L : Lined bound m s) (t : ℕ) (e : t ≡ word m 5) where
-  pub first-pre : low (s .tree) < bound → (1 ≤ nodeAt m t .height) × Ordered m t
-  first-pre h = (remove-pre m s (L .link) t e (L .two h) .0, (s .tree, sole m s (L .link) t e, 0, mostKey, L .ordered))
-
-  pub first-removal : (c : Cut) (m1 : List ℕ) → low (s .tree) < bound → RemovesFirst t c m m1 → Removal c m s (least (s .tree) .1) m1
-  first-removal c m1 h f = record { link = L .link; two = L .two h; cut = f (s .tree) (sole m s (L .link) t e) 0 mostKey (L .ordered) }
 
 -- ---- one void less
 module _ (m : List ℕ) (s : State) (k : ℕ) (c : Cut) (m1 : List ℕ) (R : Removal c m s k m1) where

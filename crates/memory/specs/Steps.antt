@@ -1,16 +1,14 @@
 -- What the three steps, and another floor, promise in memory: of every state that the memory holds, the memory after holds the state's own step.
 use mathlib.Core.List.{List}
 use mathlib.Core.Path.{_≡_}
-use mathlib.Core.Bool.{Bool, true, false}
-use Prim.Native.Nat.{ℕ, _≤_, _<_}
+use Prim.Native.Nat.{ℕ, _≤_}
 use lib.ListN.{length}
-use Rattle.shape.specs.Tree.{Balanced, Ord, low, size}
+use Rattle.shape.specs.Tree.{Balanced, Ord, size}
 use Rattle.numbers.specs.Words.{word}
 use Rattle.node.specs.Paths.{longestWay, Reaches}
 use Rattle.rising.specs.declared.Cut.{Cut}
 use Rattle.rising.specs.Changes.{Shrunk}
 use Rattle.state.specs.State.{State, shorten, add, drop, with-floor}
-use Rattle.state.specs.Act.{dropLeast}
 use Rattle.state.specs.Sound.{mostKey}
 use Rattle.state.specs.Places.{Placed}
 use Rattle.memory.specs.Holds.{Holds, After}
@@ -67,23 +65,6 @@ CutOut c m = (m0 : List ℕ) × (s : State) × (k : ℕ) × Removal c m0 s k m
 
 abbrev pub GivesBack : Cut → (m m′ : List ℕ) → Type 0
 GivesBack c m m′ = (m0 : List ℕ) (s : State) (k : ℕ) → Removal c m0 s k m → After m0 m′ (drop s k)
-
--- a link with rising keys, and with another void if the first to end does so before the bound
-pub record Lined (bound : ℕ) (m : List ℕ) (s : State) : Type 0 where
-  pub link : Link m s
-  pub ordered : Ord 0 mostKey (s .tree)
-  pub two : low (s .tree) < bound → 2 ≤ size (s .tree)
-
-abbrev pub Clearable : (bound : ℕ) → List ℕ → Type 0
-Clearable bound m = (s : State) × Lined bound m s
-
--- the void that ends first goes if it ends before the bound
-pub record FirstDropped (bound : ℕ) (b : Bool) (m m′ : List ℕ) (s : State) : Type 0 where
-  pub gone : b ≡ true → (low (s .tree) < bound) × After m m′ (dropLeast s)
-  pub none : b ≡ false → (bound ≤ low (s .tree)) × (m′ ≡ m)
-
-abbrev pub DropsFirst : (bound : ℕ) → Bool → (m m′ : List ℕ) → Type 0
-DropsFirst bound b m m′ = (s : State) → Lined bound m s → FirstDropped bound b m m′ s
 
 abbrev pub Refloors : (moment : ℕ) → (m m′ : List ℕ) → Type 0
 Refloors moment m m′ = (s : State) → Link m s → After m m′ (with-floor s moment)

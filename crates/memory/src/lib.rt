@@ -7,7 +7,7 @@ ghost use Rattle.rule.specs.Settings.{mostRoom};
 ghost use Rattle.node.specs.Layout.{Within, nodeAt, Saved};
 ghost use Rattle.memory.specs.Header.{need};
 ghost use Rattle.memory.specs.Holds.{spareNode};
-ghost use Rattle.memory.specs.Steps.{Some, Noted, Roomy, Several, Clearable, CutOut, GivesBack, Shortens, Adds, Drops, DropsFirst, Refloors};
+ghost use Rattle.memory.specs.Steps.{Some, Noted, Roomy, Several, CutOut, GivesBack, Shortens, Adds, Drops, Refloors};
 use numbers::words::get;
 use numbers::words::put;
 use tree::Cut;
@@ -114,20 +114,6 @@ pub fn drop(mem: &mut [u8], key: u64)
     let root = get(mem, ROOT) as usize;
     let cut = tree::remove(mem, root, key);
     give_back(mem, cut);
-}
-
-// One void less, the one that ends first, if it ends before the bound. Whether one went.
-pub fn drop_first(mem: &mut [u8], bound: u64) -> bool
-    requires { ⌜ Clearable bound (now mem) ⌝ }
-    ensures { λ b. ⌜ DropsFirst bound b (now (mem .entry)) (now (mem .exit)) ⌝ }
-{
-    let root = get(mem, ROOT) as usize;
-    if bound <= node::load(mem, root).low {
-        return false;
-    }
-    let cut = tree::remove_first(mem, root);
-    give_back(mem, cut);
-    true
 }
 
 // Another floor.

@@ -1,17 +1,18 @@
--- What `hang` and `join` come to: the leaves of both trees, one after the other, on the same places, and balanced whatever their heights were.
+-- What `hang` and `join` come to: the leaves of both trees, one after the other, on the same places, and balanced whatever their heights were;
+-- and `clear` and `freed`, case by case.
 use mathlib.Core.Path.{_≡_, refl, sym, _∙_}
 use mathlib.Core.Logic.{inl, inr}
 use mathlib.Core.Bool.{Bool, true, false}
-use mathlib.Core.List.{List, _++_}
-use Prim.Native.Nat.{ℕ, _+_, _*_, _≤_, max}
+use mathlib.Core.List.{List, [], _∷_, _++_}
+use Prim.Native.Nat.{ℕ, _+_, _*_, _≤_, _<_, max}
 use native.Mathlib.Omega.{arith}
 use Rattle.numbers.specs.Case.{case-le}
-use Rattle.shape.specs.Tree.{Tree, leaf, node, height, leaves, weight, All, Balanced}
+use Rattle.shape.specs.Tree.{Tree, leaf, node, height, low, leaves, weight, All, Balanced}
 use Rattle.shape.specs.Side.{near, far, over}
 use Rattle.shape.specs.SideLaws.{joined, joined-assoc, joined-swap, leaves-over, height-over, weight-over, all-over, over-all, over-even}
 use Rattle.shape.specs.Arrange.{balance}
 use Rattle.shape.specs.BalanceLaws.{balance-over}
-use Rattle.shape.specs.Clear.{hang, join}
+use Rattle.shape.specs.Clear.{hang, join, gone, rest, meet, clear, unused, freed}
 
 -- t is w over x, on the side named, and y, which is no higher
 pub record Hung (left : Bool) (w : ℕ) (x y t : Tree) : Type 1 where
@@ -78,3 +79,31 @@ join-ok w l r L R = elim (case-le (height r) (height l)) [
       let H = hang-ok false w r l R L (omega (arith, z .0)) in
       rw (z .1) (record { list = H .list; weigh = λ f v. omega (arith, H .weigh f v); all = λ P a b. H .all P b a; even = H .even; high = omega (arith, H .high) })
 ]
+
+-- ---- a tree with no leaf to clear stays as it is
+pub clear-none : (b : ℕ) (t : Tree) → b ≤ low t → clear b t ≡ rest t
+unfolding clear
+clear-none b (leaf p k e) h = elim (case-le b e) [ inl z ↦ rw (z .1) | inr z ↦ absurd (omega arith) ]
+clear-none b (node x l r) h = elim (case-le b (low (node x l r))) [ inl z ↦ rw (z .1) | inr z ↦ absurd (omega arith) ]
+
+pub freed-none : (b : ℕ) (t : Tree) → b ≤ low t → freed b t ≡ []
+unfolding freed
+freed-none b (leaf p k e) h = elim (case-le b e) [ inl z ↦ rw (z .1) | inr z ↦ absurd (omega arith) ]
+freed-none b (node x l r) h = elim (case-le b (low (node x l r))) [ inl z ↦ rw (z .1) | inr z ↦ absurd (omega arith) ]
+
+-- else a node's sides are cleared
+pub clear-sides : (b x : ℕ) (l r : Tree) → low (node x l r) < b → clear b (node x l r) ≡ meet x (clear b l) (clear b r)
+unfolding clear
+clear-sides b x l r h = elim (case-le b (low (node x l r))) [ inl z ↦ absurd (omega arith) | inr z ↦ rw (z .1) ]
+
+pub freed-sides : (b x : ℕ) (l r : Tree) → low (node x l r) < b → freed b (node x l r) ≡ unused x (clear b l) (clear b r) ++ (freed b r ++ freed b l)
+unfolding freed
+freed-sides b x l r h = elim (case-le b (low (node x l r))) [ inl z ↦ absurd (omega arith) | inr z ↦ rw (z .1) ]
+
+pub clear-leaf : (b p k e : ℕ) → e < b → clear b (leaf p k e) ≡ gone
+unfolding clear
+clear-leaf b p k e h = elim (case-le b e) [ inl z ↦ absurd (omega arith) | inr z ↦ rw (z .1) ]
+
+pub freed-leaf : (b p k e : ℕ) → e < b → freed b (leaf p k e) ≡ p ∷ []
+unfolding freed
+freed-leaf b p k e h = elim (case-le b e) [ inl z ↦ absurd (omega arith) | inr z ↦ rw (z .1) ]
