@@ -14,7 +14,7 @@ use Rattle.turning.specs.Turns.{Two, Both, Arranged, Turns, Balances, Ba
 use Rattle.turning.proofs.Sides.{two-mendable, two-over, two-swap, reads-height}
 
 -- over b and a is as good as over a and b
-arranged-swap : {t w : ℕ} {a b res : Tree} {m m′ : List ℕ} → Arranged t (node w b a) res m m′ → Arranged t (node w a b) res m m′
+pub arranged-swap : {t w : ℕ} {a b res : Tree} {m m′ : List ℕ} → Arranged t (node w b a) res m m′ → Arranged t (node w a b) res m m′
 arranged-swap g =
     record { stands = g .stands; many = λ z. omega (arith, g .many z); high = omega (arith, g .high); kept = kept-less (g .kept) (λ z e. omega arith) }
 
