@@ -16,13 +16,11 @@ use Rattle.node.specs.Rep.{Stands}
 use Rattle.node.proofs.Frames.{kept-then, kept-less, within-kept}
 use Rattle.node.proofs.Reps.{tall, within, stands-frame}
 use Rattle.turning.specs.Turns.{OverOn, Two, Both, Arranged, BalancesOn}
-use Rattle.turning.proofs.Sides.{uses-sides, inners-sides, two-over, reads-height, Children, children}
+use Rattle.turning.proofs.Sides.{uses-sides, inners-sides, two-over, Children, children}
+use Rattle.turning.proofs.Balancing.{heights}
 use Rattle.joining.specs.Joins.{Hangs}
 
 module _ (m : List ℕ) (w h l : ℕ) (n k : Node) (en : n ≡ nodeAt m h) (ek : k ≡ nodeAt m l) (s : Bool) where
-  heights : (a b : Tree) → Two m w h l a b → (n .height ≡ height a) × (k .height ≡ height b)
-  heights a b f = (reads-height m h n en (f .first), reads-height m l k ek (f .second))
-
   arranged : (a b : Tree) (m′ : List ℕ) (t : ℕ) → Stands m′ t (hang s w a b) → Kept (λ z. inners z (node w a b)) m m′ → Arranged t (node w a b) (hang s w a b) m m′
   arranged a b m′ t st kept =
       record { stands = st; many = λ z. weight-hang (λ p j v. same z p) (same z) s w a b; high = height-hang s w a b; kept = kept }
@@ -30,7 +28,7 @@ module _ (m : List ℕ) (w h l : ℕ) (n k : Node) (en : n ≡ nodeAt m h) (ek :
   -- ---- here
   pub hang-here : (m1 : List ℕ) → n .height ≤ k .height + 1 → OverOn s w h l m m1 → Hangs s w h l w m m1
   hang-here m1 le o a b f =
-      let q : height a ≤ height b + 1 = omega (arith, heights a b f) in
+      let q : height a ≤ height b + 1 = omega (arith, heights m w h l n k en ek a b f) in
       arranged a b m1 w (rw (hang-over s w a b q) (two-over f s m1 o)) (kept-less (o .kept) (λ z e. omega arith))
 
   -- ---- further down: x is the outer child, y the inner one
@@ -46,17 +44,17 @@ module _ (m : List ℕ) (w h l : ℕ) (n k : Node) (en : n ≡ nodeAt m h) (ek :
           second = f .second;
           room = f .room;
           once = λ z. omega (arith, f .once z, uses-sides z s c d);
-          low = omega (arith, f .low, g .high, heights (node v c d) b f);
+          low = omega (arith, f .low, g .high, heights m w h l n k en ek (node v c d) b f);
         }
 
     pub hang-down : Both m w h l → Both m w y l × (nodeAt m y .height < nodeAt m h .height)
     hang-down g = go (g .0) (g .1) (g .2)
       where
         go : (a b : Tree) → Two m w h l a b → Both m w y l × (nodeAt m y .height < nodeAt m h .height)
-        go (leaf p j e) b f = absurd (omega (arith, heights (leaf p j e) b f))
+        go (leaf p j e) b f = absurd (omega (arith, heights m w h l n k en ek (leaf p j e) b f))
         go (node v c d) b f =
             let g = below v c d b f in
-            ((far s c d, b, two-inner v c d b f), omega (arith, tall (g .far-at), g .high, heights (node v c d) b f, tall (f .first)))
+            ((far s c d, b, two-inner v c d b f), omega (arith, tall (g .far-at), g .high, heights m w h l n k en ek (node v c d) b f, tall (f .first)))
 
     module _ (m1 : List ℕ) (r1 : ℕ) (hangs : Hangs s w y l r1 m m1) where
       two-hung : (v : ℕ) (c d b : Tree) → Two m w h l (node v c d) b → Two m1 h x r1 (near s c d) (hang s w (far s c d) b)
@@ -68,23 +66,23 @@ module _ (m : List ℕ) (w h l : ℕ) (n k : Node) (en : n ≡ nodeAt m h) (ek :
             second = i .stands;
             room = within-kept _ m m1 (i .kept) h (within (f .first));
             once = λ z. omega (arith, f .once z, uses-sides z s c d, i .many z, ap (same z) (g .at));
-            low = omega (arith, i .high, f .low, g .high, heights (node v c d) b f);
+            low = omega (arith, i .high, f .low, g .high, heights m w h l n k en ek (node v c d) b f);
           }
 
       pub hung-both : Both m w h l → Both m1 h x r1
       hung-both g = go (g .0) (g .1) (g .2)
         where
           go : (a b : Tree) → Two m w h l a b → Both m1 h x r1
-          go (leaf p j e) b f = absurd (omega (arith, heights (leaf p j e) b f))
+          go (leaf p j e) b f = absurd (omega (arith, heights m w h l n k en ek (leaf p j e) b f))
           go (node v c d) b f = (_, _, two-hung v c d b f)
 
       pub hang-on : (m2 : List ℕ) (r2 : ℕ) → BalancesOn s h x r1 r2 m1 m2 → Hangs s w h l r2 m m2
-      hang-on m2 r2 bal (leaf p j e) b f = absurd (omega (arith, heights (leaf p j e) b f))
+      hang-on m2 r2 bal (leaf p j e) b f = absurd (omega (arith, heights m w h l n k en ek (leaf p j e) b f))
       hang-on m2 r2 bal (node v c d) b f =
           let g = below v c d b f in
           let i = hangs (far s c d) b (two-inner v c d b f) in
           let t = bal _ _ (two-hung v c d b f) in
-          let q : height b + 1 < height (node v c d) = omega (arith, heights (node v c d) b f) in
+          let q : height b + 1 < height (node v c d) = omega (arith, heights m w h l n k en ek (node v c d) b f) in
           arranged (node v c d) b m2 r2 (rw (hang-side s w v c d b q, g .at) (t .stands))
           (kept-then (i .kept) (t .kept) (λ z u. (
             omega (arith, u, inners-sides z s c d),

@@ -25,7 +25,7 @@ pub mendable-both : (m : List ℕ) (w x y : ℕ) → Both m w x y → Mendable m
 mendable-both m w x y g = two-mendable (g .2)
 
 module _ (m : List ℕ) (w l r : ℕ) (x y : Node) (ex : x ≡ nodeAt m l) (ey : y ≡ nodeAt m r) where
-  heights : (a b : Tree) → Two m w l r a b → (x .height ≡ height a) × (y .height ≡ height b)
+  pub heights : (a b : Tree) → Two m w l r a b → (x .height ≡ height a) × (y .height ≡ height b)
   heights a b f = (reads-height m l x ex (f .first), reads-height m r y ey (f .second))
 
   pub low-both : Both m w l r → (x .height < 4294967290) × (y .height < 4294967290)
