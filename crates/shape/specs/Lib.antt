@@ -10,6 +10,7 @@ pub mod HeightLaws
 pub mod SideLaws
 pub mod TurnLaws
 pub mod ChangeLaws
+pub mod HangLaws
 pub mod BalanceLaws
 pub mod JoinLaws
 pub mod EvenLaws

@@ -14,7 +14,7 @@ use Rattle.turning.specs.Turns.{Two, Both, Arranged, Turns, Balances, Ba
 use Rattle.turning.proofs.Sides.{two-mendable, two-over, two-swap, reads-height}
 
 -- over b and a is as good as over a and b
-arranged-swap : {t w : ℕ} {a b res : Tree} {m m′ : List ℕ} → Arranged t (node w b a) res m m′ → Arranged t (node w a b) res m m′
+pub arranged-swap : {t w : ℕ} {a b res : Tree} {m m′ : List ℕ} → Arranged t (node w b a) res m m′ → Arranged t (node w a b) res m m′
 arranged-swap g =
     record { stands = g .stands; many = λ z. omega (arith, g .many z); high = omega (arith, g .high); kept = kept-less (g .kept) (λ z e. omega arith) }
 
@@ -25,7 +25,7 @@ pub mendable-both : (m : List ℕ) (w x y : ℕ) → Both m w x y → Mendable m
 mendable-both m w x y g = two-mendable (g .2)
 
 module _ (m : List ℕ) (w l r : ℕ) (x y : Node) (ex : x ≡ nodeAt m l) (ey : y ≡ nodeAt m r) where
-  heights : (a b : Tree) → Two m w l r a b → (x .height ≡ height a) × (y .height ≡ height b)
+  pub heights : (a b : Tree) → Two m w l r a b → (x .height ≡ height a) × (y .height ≡ height b)
   heights a b f = (reads-height m l x ex (f .first), reads-height m r y ey (f .second))
 
   pub low-both : Both m w l r → (x .height < 4294967290) × (y .height < 4294967290)

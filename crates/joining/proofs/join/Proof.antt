@@ -1,0 +1,43 @@
+use borrow.Author.Needs.{needs}
+use Rattle.turning.proofs.Sides.{within-both}
+use Rattle.turning.proofs.Balancing.{both-swap}
+use Rattle.joining.proofs.Joining.{joins-left, joins-right}
+use Rattle.joining.proofs.join.Statement.{statement}
+use Rattle.joining.proofs.join.Tie as tie
+
+load-requires : tie.Need-load-requires
+load-requires c κs = within-both _ _ _ _ (c .before .before .pre) .1
+
+load-requires-2 : tie.Need-load-requires-2
+load-requires-2 c κs = within-both _ _ _ _ (c .before .before .before .before .pre) .0
+
+hang-requires : tie.Need-hang-requires
+hang-requires c κs = search needs
+
+hang-requires-2 : tie.Need-hang-requires-2
+hang-requires-2 c κs = both-swap _ _ _ _ (c .before .before .before .before .before .before .before .before .before .pre)
+
+same-length : tie.Need-same-length
+same-length c = search needs
+
+returns : tie.Need-returns
+returns c = joins-left _ _ _ _ _ _ (c .before .before .before .before .before .before .before .load2 .ensures) (c .before .before .before .before .before .before .before .before .before .load .ensures) _ _ (c .before .before .before .before .if1 .taken) (c .before .before .hang .ensures)
+
+same-length-2 : tie.Need-same-length-2
+same-length-2 c = search needs
+
+returns-2 : tie.Need-returns-2
+returns-2 c = joins-right _ _ _ _ _ _ (c .before .before .before .before .before .before .before .load2 .ensures) (c .before .before .before .before .before .before .before .before .before .load .ensures) _ _ (c .before .before .before .before .if1 .left) (c .before .before .hang2 .ensures)
+
+pub join-spec : {M : Type 1} → statement M
+join-spec =
+    tie.close
+    (tie.spec
+    load-requires
+    load-requires-2
+    hang-requires
+    hang-requires-2
+    same-length
+    returns
+    same-length-2
+    returns-2)
