@@ -19,7 +19,7 @@ use Rattle.node.proofs.Reps.{seen, within}
 use Rattle.node.proofs.Frames.{node-kept}
 use Rattle.turning.specs.Turns.{Two, Arranged}
 use Rattle.state.specs.Sound.{among, below}
-use Rattle.state.specs.ClearLaws.{weightOf, EvenOf, Cleared, among-append, clear-ok}
+use Rattle.state.specs.ClearLaws.{weightOf, EvenOf, twiceOf, Cleared, among-append, clear-ok}
 use Rattle.memory.specs.Holds.{spareNode}
 use Rattle.memory.proofs.Parts.{below-in, below-most, past-then}
 use Rattle.clearing.specs.declared.Left.{Left}
@@ -39,6 +39,10 @@ is-gone m x (rest u) l e = absurd (false≢true (sym (l .0) ∙ e))
 pub is-left : (m : List ℕ) (x : Left) (q : Rest) → LeftAt m x q → x .gone ≡ false → (u : Tree) × (q ≡ rest u) × Stands m (x .root) u
 is-left m x gone l e = absurd (false≢true (sym e ∙ l))
 is-left m x (rest u) l e = (u, refl, l .1)
+
+twice-some : (q : Rest) → 1 ≤ twiceOf q
+twice-some gone = omega arith
+twice-some (rest u) = omega (arith, size-some u)
 
 module _ (b n : ℕ) (h m : List ℕ) (p : ℕ) (ps : List ℕ) where
   -- ---- a tree that stays
@@ -78,8 +82,8 @@ module _ (b n : ℕ) (h m : List ℕ) (p : ℕ) (ps : List ℕ) where
 
   -- ---- a node
   module _ (x : ℕ) (l r : Tree) (S : Site n h m p (node x l r) ps) where
-    at : x ≡ p
-    at = S .stands .at
+    x-is : x ≡ p
+    x-is = S .stands .at
 
     L-ok : Cleared b l (clear b l) (freed b l)
     L-ok = clear-ok b l (S .even .0)
@@ -141,8 +145,8 @@ module _ (b n : ℕ) (h m : List ℕ) (p : ℕ) (ps : List ℕ) where
         pub left-2 : LeftAt m2 X (clear b l)
         left-2 = left-stays m1 m2 X (clear b l) (R .ground .past .len) (λ z u. R .nodes z (omega (arith, S .once z, below-most z n, L-ok .places z, u))) (L .left)
 
-        pub few-2 : length ps2 + 1 < 65536 + 1
-        few-2 = omega (arith, S .few, L-ok .many, R-ok .many, length-append (freed b r) ps1, length-append (freed b l) ps, size-some l, size-some r)
+        pub few-2 : length ps2 < 65536
+        few-2 = omega (arith, S .few, L-ok .many, R-ok .many, length-append (freed b r) ps1, length-append (freed b l) ps, twice-some (clear b l), twice-some (clear b r))
 
         order : (us : List ℕ) → (us ++ (freed b r ++ freed b l)) ++ ps ≡ us ++ ps2
         order us = append-assoc us (freed b r ++ freed b l) ps ∙ ap (λ vs. us ++ vs) (append-assoc (freed b r) (freed b l) ps)
@@ -162,7 +166,7 @@ module _ (b n : ℕ) (h m : List ℕ) (p : ℕ) (ps : List ℕ) where
           x-each z = omega (arith, each-2 z)
 
           pub node-pre : (k : ℕ) → k ≡ length ps2 → (Within m2 p) × (k < 65536) × (word m2 7 < 65536)
-          node-pre k ek = rw at at (give-pre m m2 n h ps2 ground-2 x x-in x-free x-each k (omega (arith, few-2, ek)))
+          node-pre k ek = rw x-is at (give-pre m m2 n h ps2 ground-2 x x-in x-free x-each k (omega (arith, few-2, ek)))
 
           -- what is left is q, at Z
           node-gone : (q : Rest) → meet x (clear b l) (clear b r) ≡ q → unused x (clear b l) (clear b r) ≡ x ∷ []
@@ -170,7 +174,7 @@ module _ (b n : ℕ) (h m : List ℕ) (p : ℕ) (ps : List ℕ) where
               → (Z : Left) → LeftAt m2 Z q → (k : ℕ) → k ≡ length ps2 → Z .spare ≡ k + 1
               → (m3 : List ℕ) → Saved p (spareNode k (word m2 7)) (store m2 7 p) m3 → Cleaned b n h m (node x l r) ps Z m3
           node-gone q eq eu less Z lz k ek es m3 s =
-              let s′ : Saved x (spareNode k (word m2 7)) (store m2 7 x) m3 = rw at s in
+              let s′ : Saved x (spareNode k (word m2 7)) (store m2 7 x) m3 = rw x-is s in
               let G = ground-given m m2 n h ps2 ground-2 x x-in x-free x-each m3 k ek s′ in
               let N = nodes-given m m2 n h ps2 ground-2 x x-in x-free x-each m3 k ek s′ in
               let e : freed b (node x l r) ++ ps ≡ x ∷ ps2 = freed-is ∙ ap (λ vs. vs ++ ps2) eu in
@@ -196,7 +200,8 @@ module _ (b n : ℕ) (h m : List ℕ) (p : ℕ) (ps : List ℕ) where
           right-side-gone f g k ek m3 s =
               let u = is-left m2 X (clear b l) left-2 f in
               let e = is-gone m2 Y (clear b r) (R .left) g in
-              node-gone (rest (u .0)) (rw (u .1, e)) (rw (u .1, e)) (λ z. rw (u .1) (omega arith)) (record { gone = false; root = X .root; spare = k + 1 }) (refl, u .2) k ek refl m3 s
+              node-gone (rest (u .0)) (ap (λ v. meet x v (clear b r)) (u .1) ∙ ap (meet x (rest (u .0))) e) (ap (λ v. unused x v (clear b r)) (u .1) ∙ ap (unused x (rest (u .0))) e)
+              (λ z. omega (arith, ap (weightOf (λ p k e. same z p) (same z)) (u .1))) (record { gone = false; root = X .root; spare = k + 1 }) (refl, u .2) k ek refl m3 s
 
           -- ---- both are left, and joined by the node
           module _ (f : X .gone ≡ false) (g : Y .gone ≡ false) where
@@ -207,23 +212,29 @@ module _ (b n : ℕ) (h m : List ℕ) (p : ℕ) (ps : List ℕ) where
             B = is-left m2 Y (clear b r) (R .left) g
 
             each-3 : (z : ℕ) → same z x + uses z (A .0) + uses z (B .0) + among z ps2 ≤ below z n
-            each-3 z = rw (A .1, B .1) at (each-2 z)
+            each-3 z = omega (arith, each-2 z, ap (weightOf (λ p k e. same z p) (same z)) (A .1), ap (weightOf (λ p k e. same z p) (same z)) (B .1))
+
+            low-a : height (A .0) ≤ height l
+            low-a = subst (EvenOf (height l)) (A .1) (L-ok .even) .1
+
+            low-b : height (B .0) ≤ height r
+            low-b = subst (EvenOf (height r)) (B .1) (R-ok .even) .1
 
             pub both-left : Two m2 p (X .root) (Y .root) (A .0) (B .0)
             both-left = record {
               first = A .2;
               second = B .2;
-              room = omega (arith, ground-2 .small, ground-2 .long, x-in, at);
-              once = λ z. rw at at (omega (arith, each-3 z, below-most z n));
-              low = omega (arith, S .low, rw (A .1) at (L-ok .even), rw (B .1) at (R-ok .even));
+              room = omega (arith, ground-2 .small, ground-2 .long, x-in, x-is);
+              once = λ z. omega (arith, each-3 z, below-most z n, ap (same z) x-is);
+              low = omega (arith, S .low, low-a, low-b);
             }
 
             pub joined : (t k : ℕ) (m3 : List ℕ) → k ≡ length ps2 → Arranged t (node p (A .0) (B .0)) (join p (A .0) (B .0)) m2 m3
                 → Cleaned b n h m (node x l r) ps (record { gone = false; root = t; spare = k }) m3
             joined t k m3 ek J =
-                let in-node : (z : ℕ) → inners z (node p (A .0) (B .0)) ≤ same z x + uses z (A .0) + uses z (B .0) = λ z. rw at (omega (arith, inners-uses z (node x (A .0) (B .0)))) in
-                let e : freed b (node x l r) ++ ps ≡ ps2 = freed-is ∙ rw (A .1, B .1) refl in
-                let c : clear b (node x l r) ≡ rest (join p (A .0) (B .0)) = clear-sides b x l r late ∙ rw (A .1, B .1, at) refl in
+                let in-node : (z : ℕ) → inners z (node p (A .0) (B .0)) ≤ same z x + uses z (A .0) + uses z (B .0) = λ z. omega (arith, inners-uses z (node p (A .0) (B .0)), ap (same z) x-is) in
+                let e : freed b (node x l r) ++ ps ≡ ps2 = freed-is ∙ ap (λ v. unused x v (clear b r) ++ ps2) (A .1) ∙ ap (λ v. unused x (rest (A .0)) v ++ ps2) (B .1) in
+                let c : clear b (node x l r) ≡ rest (join p (A .0) (B .0)) = clear-sides b x l r late ∙ ap (λ v. meet x v (clear b r)) (A .1) ∙ ap (meet x (rest (A .0))) (B .1) ∙ ap (λ w. rest (join w (A .0) (B .0))) x-is in
                 record {
                   ground = rw e (ground-kept m m2 n h ps2 ground-2 _ m3 (J .kept) (λ z. omega (arith, in-node z, each-3 z)));
                   left = rw c (refl, J .stands);
