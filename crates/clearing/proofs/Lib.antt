@@ -1,2 +1,4 @@
 pub mod Grounds
 pub mod Cleaning
+pub mod Descending
+pub mod Sweep

@@ -1,0 +1,113 @@
+-- `clearing::below`: what is left of the tree, by what is left of its sides. Assumes nothing.
+use mathlib.Core.Path.{refl, _∙_}
+use Prim.Native.Nat.{ℕ, _<_}
+use native.Mathlib.Omega.{arith}
+use borrow.Fn.Kinds.{In}
+use borrow.Fn.PlainCycle.{Measures, is, falls, and}
+use Rattle.node.specs.Layout.{nodeAt}
+use Rattle.clearing.proofs.Descending.{here, stayed, leaf-ask, leaf-went, down-left, down-right, give-ask, left-went, right-went, join-ask, joined-up}
+use Rattle.clearing.proofs.below.Reads as below
+use Rattle.clearing.proofs.below.Kinds as below-kinds
+use Rattle.clearing.proofs.+below.Lts-below as below-lts
+use Rattle.joining.proofs.join.Reads as join-reads
+use Rattle.memory.proofs.give_spare.Reads as give-spare-reads
+use Rattle.node.proofs.load.Reads as load-reads
+use Rattle.clearing.proofs.+below.{statement}
+use Rattle.clearing.proofs.+below.Tie.{close}
+
+-- the height falls at each call
+abbrev μ-below : Measures 1 below-kinds.ps ℕ
+μ-below κs a = nodeAt (a .0 .now) (a .1 .0) .height
+
+abbrev below-at : ℕ → In 1 below-kinds.ps
+below-at t = and 1 below-kinds.ps (is 1 below-kinds.ps μ-below t) below.Pre
+
+abbrev below-below : ℕ → In 1 below-kinds.ps
+below-below t = and 1 below-kinds.ps (falls 1 below-kinds.ps _<_ μ-below t) below.Pre
+
+abbrev calls : ℕ → below-lts.Claims
+calls t = (load-reads.Asked, load-reads.Learnt, give-spare-reads.Asked, give-spare-reads.Learnt, below-below t, below.Post, join-reads.Asked, join-reads.Learnt)
+
+below-load-requires : (t : ℕ) → below-lts.Need-load-requires (calls t) (below-at t) below.Post
+below-load-requires t c κs = here (c .before .before .args .bound) _ _ _ (c .before .before .pre .1)
+
+below-same-length : (t : ℕ) → below-lts.Need-same-length (calls t) (below-at t) below.Post
+below-same-length t c = refl
+
+below-returns : (t : ℕ) → below-lts.Need-returns (calls t) (below-at t) below.Post
+below-returns t c = stayed (c .before .before .before .before .before .args .bound) _ _ _ _ (c .before .before .load .ensures) (c .if1 .taken)
+
+below-give-spare-requires : (t : ℕ) → below-lts.Need-give-spare-requires (calls t) (below-at t) below.Post
+below-give-spare-requires t c κs = leaf-ask (c .before .before .before .before .before .before .before .before .args .bound) _ _ _ _ (c .before .before .before .before .before .load .ensures) (c .before .if2 .taken) (c .before .before .before .before .before .before .before .before .pre .1)
+
+below-add-t16 : (t : ℕ) → below-lts.Need-add-t16 (calls t) (below-at t) below.Post
+below-add-t16 t c = omega (arith, leaf-ask (c .before .before .before .before .before .before .before .before .before .before .before .args .bound) _ _ _ _ (c .before .before .before .before .before .before .before .before .load .ensures) (c .before .before .before .before .if2 .taken) (c .before .before .before .before .before .before .before .before .before .before .before .pre .1) .1)
+
+below-same-length-2 : (t : ℕ) → below-lts.Need-same-length-2 (calls t) (below-at t) below.Post
+below-same-length-2 t c = c .before .before .give-spare .kept .0
+
+below-returns-2 : (t : ℕ) → below-lts.Need-returns-2 (calls t) (below-at t) below.Post
+below-returns-2 t c = leaf-went (c .before .before .before .before .before .before .before .before .before .before .before .args .bound) _ _ _ _ (c .before .before .before .before .before .before .before .before .load .ensures) (c .before .before .before .before .before .before .if1 .left) (c .before .before .before .before .if2 .taken) _ (c .before .before .give-spare .ensures)
+
+below-below-requires : (t : ℕ) → below-lts.Need-below-requires (calls t) (below-at t) below.Post
+below-below-requires t c κs = let d = down-left (c .before .before .before .before .before .before .before .before .args .bound) _ _ _ _ (c .before .before .before .before .before .load .ensures) (c .before .if2 .left) (c .before .before .before .before .before .before .before .before .pre .1) in (omega (arith, d .1, c .before .before .before .before .before .before .before .before .pre .0), d .0)
+
+below-below-requires-2 : (t : ℕ) → below-lts.Need-below-requires-2 (calls t) (below-at t) below.Post
+below-below-requires-2 t c κs = let d = down-right (c .before .before .before .before .before .before .before .before .before .before .before .before .args .bound) _ _ _ _ (c .before .before .before .before .before .before .before .before .before .load .ensures) (c .before .before .before .before .before .if2 .left) _ _ (c .before .before .before .below .ensures) (c .before .before .before .before .before .before .before .before .before .before .before .before .pre .1) in (omega (arith, d .1, c .before .before .before .before .before .before .before .before .before .before .before .before .pre .0), d .0)
+
+below-give-spare-requires-2 : (t : ℕ) → below-lts.Need-give-spare-requires-2 (calls t) (below-at t) below.Post
+below-give-spare-requires-2 t c κs = give-ask (c .before .before .before .before .before .before .before .before .before .before .before .before .before .before .before .before .before .args .bound) _ _ _ _ (c .before .before .before .before .before .before .before .before .before .before .before .before .before .before .load .ensures) (c .before .before .before .before .before .before .before .before .before .before .if2 .left) _ _ (c .before .before .before .before .before .before .before .before .below .ensures) _ _ (c .before .before .before .before .below2 .ensures) (c .before .before .before .before .before .before .before .before .before .before .before .before .if1 .left) (c .before .before .before .before .before .before .before .before .before .before .before .before .before .before .before .before .before .pre .1)
+
+below-add-t25 : (t : ℕ) → below-lts.Need-add-t25 (calls t) (below-at t) below.Post
+below-add-t25 t c = omega (arith, give-ask (c .before .before .before .before .before .before .before .before .before .before .before .before .before .before .before .before .before .before .before .before .args .bound) _ _ _ _ (c .before .before .before .before .before .before .before .before .before .before .before .before .before .before .before .before .before .load .ensures) (c .before .before .before .before .before .before .before .before .before .before .before .before .before .if2 .left) _ _ (c .before .before .before .before .before .before .before .before .before .before .before .below .ensures) _ _ (c .before .before .before .before .before .before .before .below2 .ensures) (c .before .before .before .before .before .before .before .before .before .before .before .before .before .before .before .if1 .left) (c .before .before .before .before .before .before .before .before .before .before .before .before .before .before .before .before .before .before .before .before .pre .1) .1)
+
+below-same-length-3 : (t : ℕ) → below-lts.Need-same-length-3 (calls t) (below-at t) below.Post
+below-same-length-3 t c = c .before .before .give-spare2 .kept .0 ∙ c .before .before .before .before .before .before .before .below2 .kept .0 ∙ c .before .before .before .before .before .before .before .before .before .before .before .below .kept .0
+
+below-returns-3 : (t : ℕ) → below-lts.Need-returns-3 (calls t) (below-at t) below.Post
+below-returns-3 t c = left-went (c .before .before .before .before .before .before .before .before .before .before .before .before .before .before .before .before .before .before .before .before .args .bound) _ _ _ _ (c .before .before .before .before .before .before .before .before .before .before .before .before .before .before .before .before .before .load .ensures) (c .before .before .before .before .before .before .before .before .before .before .before .before .before .if2 .left) _ _ (c .before .before .before .before .before .before .before .before .before .before .before .below .ensures) _ _ (c .before .before .before .before .before .before .before .below2 .ensures) (c .before .before .before .before .before .before .before .before .before .before .before .before .before .before .before .if1 .left) (c .before .before .before .before .if3 .taken) _ (c .before .before .give-spare2 .ensures)
+
+below-give-spare-requires-3 : (t : ℕ) → below-lts.Need-give-spare-requires-3 (calls t) (below-at t) below.Post
+below-give-spare-requires-3 t c κs = give-ask (c .before .before .before .before .before .before .before .before .before .before .before .before .before .before .before .before .before .before .args .bound) _ _ _ _ (c .before .before .before .before .before .before .before .before .before .before .before .before .before .before .before .load .ensures) (c .before .before .before .before .before .before .before .before .before .before .before .if2 .left) _ _ (c .before .before .before .before .before .before .before .before .before .below .ensures) _ _ (c .before .before .before .before .before .below2 .ensures) (c .before .before .before .before .before .before .before .before .before .before .before .before .before .if1 .left) (c .before .before .before .before .before .before .before .before .before .before .before .before .before .before .before .before .before .before .pre .1)
+
+below-add-t29 : (t : ℕ) → below-lts.Need-add-t29 (calls t) (below-at t) below.Post
+below-add-t29 t c = omega (arith, give-ask (c .before .before .before .before .before .before .before .before .before .before .before .before .before .before .before .before .before .before .before .before .before .args .bound) _ _ _ _ (c .before .before .before .before .before .before .before .before .before .before .before .before .before .before .before .before .before .before .load .ensures) (c .before .before .before .before .before .before .before .before .before .before .before .before .before .before .if2 .left) _ _ (c .before .before .before .before .before .before .before .before .before .before .before .before .below .ensures) _ _ (c .before .before .before .before .before .before .before .before .below2 .ensures) (c .before .before .before .before .before .before .before .before .before .before .before .before .before .before .before .before .if1 .left) (c .before .before .before .before .before .before .before .before .before .before .before .before .before .before .before .before .before .before .before .before .before .pre .1) .1)
+
+below-same-length-4 : (t : ℕ) → below-lts.Need-same-length-4 (calls t) (below-at t) below.Post
+below-same-length-4 t c = c .before .before .give-spare3 .kept .0 ∙ c .before .before .before .before .before .before .before .before .below2 .kept .0 ∙ c .before .before .before .before .before .before .before .before .before .before .before .before .below .kept .0
+
+below-returns-4 : (t : ℕ) → below-lts.Need-returns-4 (calls t) (below-at t) below.Post
+below-returns-4 t c = right-went (c .before .before .before .before .before .before .before .before .before .before .before .before .before .before .before .before .before .before .before .before .before .args .bound) _ _ _ _ (c .before .before .before .before .before .before .before .before .before .before .before .before .before .before .before .before .before .before .load .ensures) (c .before .before .before .before .before .before .before .before .before .before .before .before .before .before .if2 .left) _ _ (c .before .before .before .before .before .before .before .before .before .before .before .before .below .ensures) _ _ (c .before .before .before .before .before .before .before .before .below2 .ensures) (c .before .before .before .before .before .before .before .before .before .before .before .before .before .before .before .before .if1 .left) (c .before .before .before .before .before .if3 .left) (c .before .before .before .before .if4 .taken) _ (c .before .before .give-spare3 .ensures)
+
+below-join-requires : (t : ℕ) → below-lts.Need-join-requires (calls t) (below-at t) below.Post
+below-join-requires t c κs = join-ask (c .before .before .before .before .before .before .before .before .before .before .before .before .before .before .before .before .before .before .args .bound) _ _ _ _ (c .before .before .before .before .before .before .before .before .before .before .before .before .before .before .before .load .ensures) (c .before .before .before .before .before .before .before .before .before .before .before .if2 .left) _ _ (c .before .before .before .before .before .before .before .before .before .below .ensures) _ _ (c .before .before .before .before .before .below2 .ensures) (c .before .before .before .before .before .before .before .before .before .before .before .before .before .if1 .left) (c .before .before .if3 .left) (c .before .if4 .left) (c .before .before .before .before .before .before .before .before .before .before .before .before .before .before .before .before .before .before .pre .1)
+
+below-same-length-5 : (t : ℕ) → below-lts.Need-same-length-5 (calls t) (below-at t) below.Post
+below-same-length-5 t c = c .before .before .join .kept .0 ∙ c .before .before .before .before .before .before .before .before .below2 .kept .0 ∙ c .before .before .before .before .before .before .before .before .before .before .before .before .below .kept .0
+
+below-returns-5 : (t : ℕ) → below-lts.Need-returns-5 (calls t) (below-at t) below.Post
+below-returns-5 t c = joined-up (c .before .before .before .before .before .before .before .before .before .before .before .before .before .before .before .before .before .before .before .before .before .args .bound) _ _ _ _ (c .before .before .before .before .before .before .before .before .before .before .before .before .before .before .before .before .before .before .load .ensures) (c .before .before .before .before .before .before .before .before .before .before .before .before .before .before .if2 .left) _ _ (c .before .before .before .before .before .before .before .before .before .before .before .before .below .ensures) _ _ (c .before .before .before .before .before .before .before .before .below2 .ensures) (c .before .before .before .before .before .before .before .before .before .before .before .before .before .before .before .before .if1 .left) (c .before .before .before .before .before .if3 .left) (c .before .before .before .before .if4 .left) _ _ (c .before .before .join .ensures)
+
+pub +below-spec : {M : Type 1} → statement M
++below-spec =
+    close μ-below λ t. below-lts.spec (calls t) (below-at t) below.Post
+    (below-load-requires t)
+    (below-same-length t)
+    (below-returns t)
+    (below-give-spare-requires t)
+    (below-add-t16 t)
+    (below-same-length-2 t)
+    (below-returns-2 t)
+    (below-below-requires t)
+    (below-below-requires-2 t)
+    (below-give-spare-requires-2 t)
+    (below-add-t25 t)
+    (below-same-length-3 t)
+    (below-returns-3 t)
+    (below-give-spare-requires-3 t)
+    (below-add-t29 t)
+    (below-same-length-4 t)
+    (below-returns-4 t)
+    (below-join-requires t)
+    (below-same-length-5 t)
+    (below-returns-5 t)
