@@ -6,15 +6,8 @@ use Rattle.rule.specs.Order.{sweep}
 use Rattle.rule.specs.Answer.{seven, numbersOf}
 use Rattle.rule.specs.declared.answer.Answer.{Answer}
 use Rattle.state.specs.State.{State}
-use Rattle.state.specs.Act.{toDrop, dropMany, act}
-use Rattle.state.specs.Sound.{Sound}
+use Rattle.state.specs.Act.{act}
 use Rattle.memory.specs.Holds.{After}
-
--- the voids that end too early are gone, so many were, and a sound link is left
-pub record Clears (moment n : ℕ) (m m′ : List ℕ) (s : State) : Type 0 where
-  pub count : n ≡ toDrop moment (s .tree)
-  pub after : After m m′ (dropMany n s)
-  pub sound : Sound (dropMany n s)
 
 pub record Sweeps (moment : ℕ) (a : Answer) (m m′ : List ℕ) (s : State) : Type 0 where
   pub answer : numbersOf a ≡ seven ((act s (sweep moment)) .reply) ((act s (sweep moment)) .count)

@@ -1,27 +1,13 @@
-// Sweeping one link: the floor is set, and the voids that end before it go, the one with the least end first.
+// Sweeping one link: the voids that end before the moment go (crate clearing), and the floor is set.
 ghost use mathlib.Core.Path.{_≡_};
 ghost use Prim.Native.Nat.{_≤_};
 ghost use Rattle.rule.specs.Moments.{lastMoment};
 ghost use Rattle.state.specs.State.{State};
 ghost use Rattle.state.specs.Sound.{Sound};
 ghost use Rattle.memory.specs.Holds.{Holds, Whole};
-ghost use Rattle.sweeping.specs.Swept.{Clears, Sweeps};
+ghost use Rattle.sweeping.specs.Swept.{Sweeps};
 use numbers::words::get;
 use rule::answer::Answer;
-
-// The voids that end too early go. How many.
-fn clear(mem: &mut [u8], moment: u64) -> u64
-    requires { ⌜ moment ≤ lastMoment ⌝ }
-    requires { ⌜ Whole (now mem) ⌝ }
-    ensures { λ n. ⌜ ((s : State) → Sound s → Holds (now (mem .entry)) s → Clears moment n (now (mem .entry)) (now (mem .exit)) s) ⌝ }
-{
-    let bound = rule::kept::least(moment);
-    let mut dropped = 0;
-    while memory::drop_first(mem, bound) {
-        dropped += 1;
-    }
-    dropped
-}
 
 // Sweeps a whole link to a moment.
 pub fn sweep(mem: &mut [u8], moment: u64) -> Answer
@@ -43,7 +29,7 @@ pub fn sweep(mem: &mut [u8], moment: u64) -> Answer
             dropped: 0,
         };
     }
-    let dropped = clear(mem, moment);
+    let dropped = clearing::clear(mem, rule::kept::least(moment));
     memory::refloor(mem, moment);
     Answer {
         code: 0,
