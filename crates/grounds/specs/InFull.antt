@@ -13,8 +13,9 @@ use Rattle.tally.specs.Counts.{counts, up, raised}
 use Rattle.order.specs.Records.{opening, openingOf, bookingOf, compactOf, sweepOf, byMark, reading}
 use Rattle.shape.specs.Tree.{size}
 use Rattle.shape.specs.Arrange.{insert, setEnd, balance, turn, twice, remove, less}
+use Rattle.shape.specs.Clear.{hang, join, clear, freed}
 use Rattle.state.specs.State.{shorten, add, drop}
-use Rattle.state.specs.Act.{split}
+use Rattle.state.specs.Act.{split, cleared}
 use Rattle.state.specs.Open.{widen, fresh}
 use Rattle.memory.specs.Header.{need}
 use Rattle.opening.specs.Opening.{openingCode}
@@ -62,10 +63,10 @@ session-accepted = refl
 pub session-answers : plain (ran .answers) ≡ (0 ∷ 0 ∷ 0 ∷ 10 ∷ 15 ∷ 0 ∷ []) ∷ (0 ∷ 1 ∷ 0 ∷ 12 ∷ 14 ∷ 0 ∷ []) ∷ (0 ∷ 1 ∷ 0 ∷ 14 ∷ 17 ∷ 0 ∷ [])
     ∷ (0 ∷ 0 ∷ 0 ∷ 15 ∷ 19 ∷ 0 ∷ []) ∷ (0 ∷ 0 ∷ 1 ∷ 21 ∷ 22 ∷ 0 ∷ []) ∷ (7 ∷ 0 ∷ 0 ∷ 0 ∷ 0 ∷ 0 ∷ []) ∷ (0 ∷ 0 ∷ 0 ∷ 0 ∷ 0 ∷ 1 ∷ [])
     ∷ (4 ∷ 0 ∷ 0 ∷ 0 ∷ 0 ∷ 0 ∷ []) ∷ (0 ∷ 0 ∷ 0 ∷ 19 ∷ 21 ∷ 0 ∷ []) ∷ (9 ∷ 0 ∷ 0 ∷ 0 ∷ 0 ∷ 0 ∷ []) ∷ []
-unfolding reading byMark bookingOf compactOf sweepOf digits goesOn hold least split shorten add drop widen insert setEnd balance turn twice remove less
+unfolding reading byMark bookingOf compactOf sweepOf digits goesOn hold least split shorten add drop widen insert setEnd balance turn twice remove less cleared clear freed join hang
 session-answers = refl
 
 -- E 3, and the whole run answered; six bookings, a sweep, and one each of the codes 4, 7 and 9
 pub session-ends : (ran .code ≡ 0) × (ran .place ≡ length orders) × (size (ran .state .tree) ≡ 3) × (counts (ran .tally) ≡ 6 ∷ 1 ∷ 0 ∷ 1 ∷ 0 ∷ 0 ∷ 1 ∷ 0 ∷ 1 ∷ 0 ∷ [])
-unfolding reading byMark bookingOf compactOf sweepOf digits goesOn hold least split shorten add drop widen insert setEnd balance turn twice remove less raised up
+unfolding reading byMark bookingOf compactOf sweepOf digits goesOn hold least split shorten add drop widen insert setEnd balance turn twice remove less cleared clear freed join hang raised up
 session-ends = (refl, refl, refl, refl)
