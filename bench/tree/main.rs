@@ -16,7 +16,6 @@ extern "C" {
     fn tree_remove(mem: *mut u8, len: usize, root: usize, key: u64) -> Cut;
     fn tree_set_end(mem: *mut u8, len: usize, root: usize, key: u64, end: u64);
     fn tree_search(mem: *const u8, len: usize, root: usize, r: u64, f: u64) -> u64;
-    fn tree_remove_first(mem: *mut u8, len: usize, root: usize) -> Cut;
 }
 
 struct Random(u64);
@@ -69,8 +68,8 @@ impl Tree {
         t
     }
 
-    /// Nanoseconds an operation: search, insert, remove, set end, remove what ends first.
-    fn round(&mut self) -> [f64; 5] {
+    /// Nanoseconds an operation: search, insert, remove, set end.
+    fn round(&mut self) -> [f64; 4] {
         let len = self.mem.len();
         let n = self.voids.len();
         let asks: Vec<(u64, u64)> = (0..4096)
@@ -86,14 +85,6 @@ impl Tree {
         }
         std::hint::black_box(sum);
         let search = began.elapsed().as_nanos() as f64 / asks.len() as f64;
-
-        // half of the voids go from a copy, the first to end first
-        let (mut copy, mut root) = (self.mem.clone(), self.root);
-        let began = Instant::now();
-        for _ in 0..n / 2 {
-            root = unsafe { tree_remove_first(copy.as_mut_ptr(), len, root) }.root;
-        }
-        let first = began.elapsed().as_nanos() as f64 / (n / 2) as f64;
 
         let spots: Vec<usize> = (0..4096).map(|_| self.random.next() as usize % n).collect();
         let began = Instant::now();
@@ -136,30 +127,29 @@ impl Tree {
             inserting += began.elapsed().as_nanos() as f64;
             count += part;
         }
-        [search, inserting / count as f64, removing / count as f64, set, first]
+        [search, inserting / count as f64, removing / count as f64, set]
     }
 }
 
 fn main() {
-    println!("| leaves | search | insert | remove | set end | remove the first to end |");
-    println!("|---|---|---|---|---|---|");
+    println!("| leaves | search | insert | remove | set end |");
+    println!("|---|---|---|---|---|");
     for n in [64, 256, 1024, 4096] {
         let mut t = Tree::new(n);
         t.round();
-        let rounds: Vec<[f64; 5]> = (0..9).map(|_| t.round()).collect();
+        let rounds: Vec<[f64; 4]> = (0..9).map(|_| t.round()).collect();
         let median = |i: usize| {
             let mut v: Vec<f64> = rounds.iter().map(|r| r[i]).collect();
             v.sort_by(f64::total_cmp);
             v[v.len() / 2]
         };
         println!(
-            "| {} | {:.0} | {:.0} | {:.0} | {:.0} | {:.0} |",
+            "| {} | {:.0} | {:.0} | {:.0} | {:.0} |",
             n,
             median(0),
             median(1),
             median(2),
-            median(3),
-            median(4)
+            median(3)
         );
     }
 }

@@ -60,15 +60,3 @@ join-left w l r h = rw (le-leb (height r) (height l) h)
 pub join-right : (w : ℕ) (l r : Tree) → height l < height r → join w l r ≡ hang false w r l
 unfolding join
 join-right w l r h = rw (lt-leb (height r) (height l) h)
-
-pub weight-join : (u : (p k e : ℕ) → ℕ) (v : ℕ → ℕ) (w : ℕ) (l r : Tree) → weight u v (join w l r) ≡ v w + weight u v l + weight u v r
-weight-join u v w l r = elim (case-le (height r) (height l)) [
-  | inl y ↦ rw (join-left w l r (y .0)) (weight-hang u v true w l r)
-  | inr y ↦ rw (join-right w l r (y .0)) (omega (arith, weight-hang u v false w r l))
-]
-
-pub height-join : (w : ℕ) (l r : Tree) → height (join w l r) ≤ max (height l) (height r) + 1
-height-join w l r = elim (case-le (height r) (height l)) [
-  | inl y ↦ rw (join-left w l r (y .0)) (height-hang true w l r)
-  | inr y ↦ rw (join-right w l r (y .0)) (omega (arith, height-hang false w r l))
-]

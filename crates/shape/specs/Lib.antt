@@ -25,4 +25,3 @@ pub mod Search
 pub mod FindLaws
 pub mod SearchLaws
 pub mod Walk
-pub mod Least

@@ -82,21 +82,21 @@ module _ (b : ℕ) where
   unfolding clear freed
   cleared-leaf p k e = elim (case-le b e) [
     | inl z ↦ rw (z .1) (record {
-        list = rw (z .1);
-        lost = λ w. rw (z .1) (omega arith);
-        all = λ P a. a (z .0);
-        even = (tt, omega arith);
-        places = λ x. omega arith;
-        many = omega arith;
-      })
+      list = rw (z .1);
+      lost = λ w. rw (z .1) (omega arith);
+      all = λ P a. a (z .0);
+      even = (tt, omega arith);
+      places = λ x. omega arith;
+      many = omega arith;
+    })
     | inr z ↦ rw (z .1) (record {
-        list = rw (z .1);
-        lost = λ w. rw (z .1) (omega arith);
-        all = λ P a. tt;
-        even = tt;
-        places = λ x. omega arith;
-        many = omega arith;
-      })
+      list = rw (z .1);
+      lost = λ w. rw (z .1) (omega arith);
+      all = λ P a. tt;
+      even = tt;
+      places = λ x. omega arith;
+      many = omega arith;
+    })
   ]
 
   -- nothing in it ends too early
@@ -177,8 +177,13 @@ module _ (b : ℕ) where
           all = λ P a. meet-all P p q E F (L .all P (a .0)) (R .all P (a .1));
           even = meet-even p q E F;
           places = λ z. omega (
-            arith, meet-weight (λ p k e. same z p) (same z) p q E F, meet-places z p q, L .places z, R .places z,
-            among-append z (unused x p q) (qs ++ ps), among-append z qs ps,
+            arith,
+            meet-weight (λ p k e. same z p) (same z) p q E F,
+            meet-places z p q,
+            L .places z,
+            R .places z,
+            among-append z (unused x p q) (qs ++ ps),
+            among-append z qs ps,
           );
           many = omega (arith, meet-twice p q E F, L .many, R .many, length-append (unused x p q) (qs ++ ps), length-append qs ps);
         }

@@ -1,4 +1,3 @@
 pub mod Below
 pub mod Tracing
 pub mod Paths
-pub mod Finding

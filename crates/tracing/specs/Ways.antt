@@ -1,4 +1,4 @@
--- The way from a root down to the leaf that a key leads to, or to the leaf with the least end, as a list of places;
+-- The way from a root down to the leaf that a key leads to, as a list of places;
 -- and what noting it asks and promises.
 use mathlib.Core.Path.{_≡_}
 use mathlib.Core.List.{List}
@@ -7,7 +7,6 @@ use lib.Dec.{ltb}
 use lib.ListN.{length, getD}
 use Rattle.shape.specs.Tree.{Tree}
 use Rattle.shape.specs.Side.{near}
-use Rattle.shape.specs.Least.{least}
 use Rattle.node.specs.Layout.{nodeAt}
 use Rattle.node.specs.Rep.{Stands}
 use Rattle.node.specs.Paths.{longestWay, Down}
@@ -38,10 +37,3 @@ Begins m k d ws = (t : ℕ) × Partway m t k d ws
 
 abbrev pub Traces : List ℕ → (k d d′ : ℕ) → (ws ws′ : List ℕ) → Type 0
 Traces m k d d′ ws ws′ = (t : ℕ) → Partway m t k d ws → Way m t k d′ ws′
-
--- the first d + 1 places of the list go down from t to the leaf with the least end
-pub record First (m : List ℕ) (t d : ℕ) (ws : List ℕ) : Type 0 where
-  pub down : Down m t d ws
-  pub short : d < longestWay
-  pub last : nodeAt m (getD ws d 0) .height ≡ 0
-  pub key : (tr : Tree) → Stands m t tr → nodeAt m (getD ws d 0) .lo ≡ least tr .1

@@ -1,11 +1,10 @@
-// The way down a tree in lent memory, noted place by place: to the leaf that a key leads to, or to the one with the least end.
+// The way down a tree in lent memory, noted place by place: to the leaf that a key leads to.
 // Whoever changes the leaf goes up again by it.
-ghost use Prim.Native.Nat.{_≤_, _<_};
+ghost use Prim.Native.Nat.{_≤_};
 ghost use lib.ListN.{length};
-ghost use Rattle.node.specs.Layout.{nodeAt};
 ghost use Rattle.node.specs.Paths.{longestWay};
 ghost use Rattle.tracing.specs.Alone.{Alone};
-ghost use Rattle.tracing.specs.Ways.{Way, Begins, Traces, First};
+ghost use Rattle.tracing.specs.Ways.{Way, Begins, Traces};
 use turning::near;
 
 // The longest way from a root down to a leaf, in places (node's specs/Paths.antt).
@@ -35,25 +34,4 @@ pub fn trace(mem: &[u8], root: usize, key: u64, way: &mut [u16]) -> usize
 {
     way[0] = root as u16;
     trace_on(mem, way, 0, key)
-}
-
-// From the root down to the leaf with the least end, of equal ends the one furthest left, noting the way. How many steps that is.
-pub fn trace_first(mem: &[u8], root: usize, way: &mut [u16]) -> usize
-    requires { ⌜ nodeAt (now mem) root .height < length (now way) ⌝ }
-    requires { ⌜ Alone (now mem) root ⌝ }
-    ensures { λ d. ⌜ First (now (mem .entry)) root d (now (way .exit)) ⌝ }
-{
-    let mut at = root;
-    let mut depth = 0;
-    way[0] = root as u16;
-    let mut n = node::load(mem, at);
-    let low = n.low;
-    while n.height != 0 {
-        let left = node::load(mem, n.left as usize);
-        at = near(left.low == low, n.left, n.right);
-        depth += 1;
-        way[depth] = at as u16;
-        n = node::load(mem, at);
-    }
-    depth
 }

@@ -1,9 +1,8 @@
 -- What the tree's functions ask and promise over a way that is noted: an end set, the way being noted in part, and the leaf at its
--- end taken out; and the removal of the leaf with the least end.
+-- end taken out.
 use mathlib.Core.List.{List}
 use Prim.Native.Nat.{ℕ, _≤_}
 use Rattle.shape.specs.Tree.{Tree, Ord}
-use Rattle.shape.specs.Least.{least}
 use Rattle.node.specs.Layout.{nodeAt}
 use Rattle.tracing.specs.Alone.{Sole, Alone}
 use Rattle.tracing.specs.Ways.{Way, Partway}
@@ -20,12 +19,3 @@ Cuttable ws d k m = (t : ℕ) × Way m t k d ws × (1 ≤ nodeAt m t .height) ×
 
 abbrev pub Cuts : List ℕ → (d k : ℕ) → Cut → (m m′ : List ℕ) → Type 0
 Cuts ws d k c m m′ = (t : ℕ) → Way m t k d ws → 1 ≤ nodeAt m t .height → Alone m t → Removes t k c m m′
-
--- ---- the leaf with the least end removed
--- the tree's keys rise, too
-abbrev pub Ordered : List ℕ → ℕ → Type 0
-Ordered m t = (tr : Tree) × Sole m t tr × (a : ℕ) × (b : ℕ) × Ord a b tr
-
--- the leaf that is removed is the one with the least end
-abbrev pub RemovesFirst : (t : ℕ) → Cut → (m m′ : List ℕ) → Type 0
-RemovesFirst t c m m′ = (tr : Tree) → Sole m t tr → (a b : ℕ) → Ord a b tr → Shrunk c (least tr .1) tr m m′

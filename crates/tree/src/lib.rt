@@ -1,17 +1,16 @@
-// The tree of voids in lent memory: insert, remove, remove the first to end, set an end (the arrangement is that of shape's Arrange).
+// The tree of voids in lent memory: insert, remove, set an end (the arrangement is that of shape's Arrange).
 // A change goes down by a way that it notes (tracing), and up again as far as anything changes (rising).
 ghost use Prim.Native.Nat.{_≤_};
 ghost use Rattle.node.specs.Layout.{nodeAt};
 ghost use Rattle.tracing.specs.Alone.{Alone};
 ghost use Rattle.tracing.specs.Ways.{Begins};
 ghost use Rattle.rising.specs.Changes.{Ready, Sets, Inserts, Removes};
-ghost use Rattle.tree.specs.OnWays.{SetsOn, Cuttable, Cuts, Ordered, RemovesFirst};
+ghost use Rattle.tree.specs.OnWays.{SetsOn, Cuttable, Cuts};
 pub use rising::Cut;
 use rising::rise;
 use rising::settle;
 use tracing::LONGEST_WAY;
 use tracing::trace;
-use tracing::trace_first;
 use tracing::trace_on;
 use turning::far;
 use turning::mend_on;
@@ -75,16 +74,4 @@ pub fn remove(mem: &mut [u8], t: usize, key: u64) -> Cut
     let mut way = [0u16; LONGEST_WAY];
     let depth = trace(mem, t, key, &mut way);
     take_out(mem, &way, depth, key)
-}
-
-// Takes out the leaf with the least end, of equal ends the one furthest left.
-pub fn remove_first(mem: &mut [u8], t: usize) -> Cut
-    requires { ⌜ 1 ≤ nodeAt (now mem) t .height ⌝ }
-    requires { ⌜ Ordered (now mem) t ⌝ }
-    ensures { λ c. ⌜ RemovesFirst t c (now (mem .entry)) (now (mem .exit)) ⌝ }
-{
-    let mut way = [0u16; LONGEST_WAY];
-    let depth = trace_first(mem, t, &mut way);
-    let first = node::load(mem, way[depth] as usize);
-    take_out(mem, &way, depth, first.lo)
 }

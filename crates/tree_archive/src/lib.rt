@@ -4,7 +4,6 @@ ghost use Rattle.rule.specs.Moments.{lastMoment};
 ghost use Rattle.node.specs.Layout.{Within, nodeAt};
 ghost use Rattle.tracing.specs.Alone.{Alone};
 ghost use Rattle.rising.specs.Changes.{Ready};
-ghost use Rattle.tree.specs.OnWays.{Ordered};
 
 #[no_mangle]
 pub extern "C" fn tree_plant(mem: &mut [u8], p: usize, key: u64, end: u64)
@@ -50,12 +49,4 @@ pub extern "C" fn tree_search(mem: &[u8], root: usize, r: u64, f: u64) -> u64
     let mut way = [0u16; tracing::LONGEST_WAY];
     let x = search::search(mem, root, r, f, &mut way);
     x.visits
-}
-
-#[no_mangle]
-pub extern "C" fn tree_remove_first(mem: &mut [u8], root: usize) -> tree::Cut
-    requires { ⌜ 1 ≤ nodeAt (now mem) root .height ⌝ }
-    requires { ⌜ Ordered (now mem) root ⌝ }
-{
-    tree::remove_first(mem, root)
 }
