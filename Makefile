@@ -63,11 +63,12 @@ bench-link: lib target/staticlib/liblink_archive.a
 # make bench              times, voids, visits, losses, bytes (a minute); fails where one that fills voids answers otherwise
 # make bench-instructions instructions an order by callgrind, and where the core's go (some minutes)
 # make bench-worst        the worst booking of each stream, in instructions (some minutes)
-# make bench-docs         all three on an idle machine, put into docs/BENCHMARKS.md, and both plots drawn from it
-.PHONY: bench bench-instructions bench-worst bench-docs bench-plots
+# make bench-forms        what a tree with the voids as its leaves could still gain, form by form (two minutes)
+# make bench-docs         all four on an idle machine, put into docs/BENCHMARKS.md, and both plots drawn from it
+.PHONY: bench bench-instructions bench-worst bench-forms bench-docs bench-plots
 RUSTC := rustc -O -C codegen-units=1 --edition 2021 -L target/staticlib -l static=door -l static=link_archive
 
-PEERS := $(wildcard bench/peers/*.rs) include/curlywether.rs target/staticlib/libdoor.a target/staticlib/liblink_archive.a
+PEERS := $(wildcard bench/peers/*.rs bench/peers/leaves/*.rs) include/curlywether.rs target/staticlib/libdoor.a target/staticlib/liblink_archive.a
 
 target/bench-peers: $(PEERS)
 	@$(RUSTC) bench/peers/main.rs -o $@
@@ -85,10 +86,14 @@ bench-instructions: target/bench-peers
 bench-worst: target/bench-peers
 	@bench/peers/worst
 
+bench-forms: target/bench-peers
+	@bench/peers/forms
+
 bench-docs:
 	@$(MAKE) -s bench > target/bench.md
 	@$(MAKE) -s bench-instructions >> target/bench.md
 	@$(MAKE) -s bench-worst >> target/bench.md
+	@$(MAKE) -s bench-forms >> target/bench.md
 	@bench/peers/fill target/bench.md docs/BENCHMARKS.md
 	@$(MAKE) -s bench-plots
 

@@ -7,6 +7,7 @@ mod core;
 #[path = "../../include/curlywether.rs"]
 mod curlywether;
 mod horizon;
+mod leaves;
 mod map;
 mod measure;
 mod order;
@@ -65,6 +66,7 @@ fn main() {
         row("map", &held::<map::Map>),
         row("tree", &held::<avl::Avl>),
         row("array", &held::<array::Array>),
+        row("leaves", &held::<leaves::Leaves<leaves::Packed, true, true, true>>),
         row("horizon", &held::<horizon::Horizon>),
     ];
     let head =

@@ -1,5 +1,5 @@
 //! The booking core beside what one would otherwise take (docs/BENCHMARKS.md): the same streams, in one run, release builds.
-//! No argument: every table of times and counts, as Markdown. The rest serves `instructions` and `worst`.
+//! No argument: every table of times and counts, as Markdown. The rest serves `instructions`, `worst` and `forms`.
 mod array;
 mod avl;
 mod core;
@@ -7,6 +7,7 @@ mod core;
 mod curlywether;
 mod growth;
 mod horizon;
+mod leaves;
 mod map;
 mod measure;
 mod order;
@@ -51,11 +52,12 @@ fn main() {
             single::all();
             growth::all();
         }
-        ["play", name, contender] => play_one(&stream(name), Contender::named(contender).expect("core, scan, map, tree, horizon, array or link")),
+        ["play", name, contender] => play_one(&stream(name), Contender::named(contender).expect("core, scan, map, tree, horizon, array, link or one of play::FORMS")),
+        ["forms", name, rounds] => tables::forms(&stream(name), rounds.parse().expect("a number of rounds")),
         ["streams"] => println!("{}", stream::NAMES.join("\n")),
         ["kinds", name] => kinds(&stream(name)),
         _ => {
-            eprintln!("bench-peers [play STREAM CONTENDER | streams | kinds STREAM]");
+            eprintln!("bench-peers [play STREAM CONTENDER | forms STREAM ROUNDS | streams | kinds STREAM]");
             std::process::exit(2);
         }
     }

@@ -1,4 +1,5 @@
 //! The contenders and how each is played: one stream from its opening to its end. What is measured is inside `bench_played` alone.
+use crate::leaves::{self, Alike, Packed};
 use crate::order::{Link, Peer, Reply, NOTHING_FITS, ROOM_FULL};
 use crate::stream::Stream;
 use std::time::Instant;
@@ -11,6 +12,8 @@ pub enum Contender {
     Avl,
     Horizon,
     Array,
+    /// The tree of leaves.rs in one of its forms (`FORMS`).
+    Leaves(usize),
     /// The core's booking and sweep by themselves (crate link_archive): one entry into the archive for each order.
     Own,
 }
@@ -19,6 +22,28 @@ use Contender::*;
 
 /// The core first, then the peers.
 pub const ALL: [Contender; 5] = [Core, Scan, Map, Avl, Horizon];
+
+type Tree<S, const BULK: bool, const SMOOTH: bool, const ONE: bool> = leaves::Leaves<S, BULK, SMOOTH, ONE>;
+/// As the core lays its nodes out; without the least key; with the sums in the parent.
+type Plain = Alike<1>;
+type Short = Alike<0>;
+
+/// The forms of the tree of leaves.rs: the one with all that helps, the plain one, each switch by itself, and all without one.
+pub const FORMS: [(&str, fn(&Stream) -> Played); 11] = [
+    ("leaves", play_peer::<Tree<Packed, true, true, true>>),
+    ("leaves-plain", play_peer::<Tree<Plain, false, false, false>>),
+    ("leaves-a", play_peer::<Tree<Plain, true, false, false>>),
+    ("leaves-b", play_peer::<Tree<Short, false, false, false>>),
+    ("leaves-c1", play_peer::<Tree<Plain, false, true, false>>),
+    ("leaves-c2", play_peer::<Tree<Packed, false, false, false>>),
+    ("leaves-d", play_peer::<Tree<Plain, false, false, true>>),
+    ("leaves-without-a", play_peer::<Tree<Packed, false, true, true>>),
+    ("leaves-without-c1", play_peer::<Tree<Packed, true, false, true>>),
+    ("leaves-b-for-c2", play_peer::<Tree<Short, true, true, true>>),
+    ("leaves-without-d", play_peer::<Tree<Packed, true, true, false>>),
+];
+/// With all that helps.
+pub const LEAVES: Contender = Leaves(0);
 
 impl Contender {
     pub fn name(self) -> &'static str {
@@ -29,12 +54,13 @@ impl Contender {
             Avl => "tree",
             Horizon => "horizon",
             Array => "array",
+            Leaves(form) => FORMS[form].0,
             Own => "link",
         }
     }
 
     pub fn named(name: &str) -> Option<Contender> {
-        ALL.into_iter().chain([Array, Own]).find(|contender| contender.name() == name)
+        ALL.into_iter().chain([Array, Own]).chain((0..FORMS.len()).map(Leaves)).find(|contender| contender.name() == name)
     }
 
     pub fn fills_voids(self) -> bool {
@@ -93,6 +119,7 @@ pub fn play(contender: Contender, stream: &Stream) -> Played {
         Avl => play_peer::<crate::avl::Avl>(stream),
         Horizon => play_peer::<crate::horizon::Horizon>(stream),
         Array => play_peer::<crate::array::Array>(stream),
+        Leaves(form) => FORMS[form].1(stream),
         Own => play_own(stream),
     }
 }

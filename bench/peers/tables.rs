@@ -1,6 +1,6 @@
 //! The tables over the streams: time beside each peer, what the streams are, visits beside their bound.
 use crate::core::Core;
-use crate::measure::{load, loss, mean, rounds, table, voids_along};
+use crate::measure::{load, loss, mean, median, rounds, table, voids_along};
 use crate::order::{Order, NOTHING_FITS, ROOM_FULL};
 use crate::play::{self, Contender};
 use crate::stream::{self, Stream};
@@ -26,6 +26,34 @@ fn array(streams: &[Stream]) {
         [stream.name.clone()].into_iter().chain(times.iter().map(|ns| format!("{ns:.0}"))).chain(ratios).collect()
     };
     table("array", &["stream", "core", "map", "sorted array", "core to map", "to array"], streams.iter().map(row).collect());
+}
+
+/// The tree with the voids as its leaves and all that helps it, beside the core, the map and the tree by hand.
+fn leaves(streams: &[Stream]) {
+    let row = |stream: &Stream| {
+        let times = rounds(stream, &[Contender::Core, Contender::Map, Contender::Avl, play::LEAVES]);
+        let ratios = [times[0], times[1], times[2], times[1].min(times[2])].map(|ns| format!("{:.2}", times[3] / ns));
+        [stream.name.clone()].into_iter().chain(times.iter().map(|ns| format!("{ns:.0}"))).chain(ratios).collect()
+    };
+    let head = ["stream", "core", "map", "tree", "leaves", "leaves to core", "to map", "to tree", "to the better of map, tree"];
+    table("leaves", &head, streams.iter().map(row).collect());
+}
+
+/// Every form of that tree in turn with the map, the core and the tree by hand, so many rounds: name, ns an order (median), and the
+/// median of its ratios to the map and to the tree by hand of the same round.
+pub fn forms(stream: &Stream, rounds: usize) {
+    let others = [Contender::Core, Contender::Map, Contender::Avl];
+    let list: Vec<Contender> = others.into_iter().chain((0..play::FORMS.len()).map(Contender::Leaves)).collect();
+    let mut times = vec![Vec::new(); list.len()];
+    for _ in 0..rounds {
+        let played: Vec<_> = list.iter().map(|one| (*one, play::play(*one, stream))).collect();
+        play::agree(stream, &played);
+        times.iter_mut().zip(&played).for_each(|(times, (_, played))| times.push(played.ns_an_order));
+    }
+    let ratio = |ns: &[f64], to: &[f64]| median(ns.iter().zip(to).map(|(ns, to)| ns / to).collect());
+    for (one, ns) in list.iter().zip(&times) {
+        println!("{} {:.0} {:.2} {:.2}", one.name(), median(ns.clone()), ratio(ns, &times[1]), ratio(ns, &times[2]));
+    }
 }
 
 /// What each stream asks and how much of it is lost.
@@ -77,6 +105,7 @@ pub fn all() {
     let list = stream::all();
     time(&list);
     array(&list);
+    leaves(&list);
     streams(&list);
     visits(&list);
 }
