@@ -4,7 +4,7 @@ use mathlib.Core.Path.{_≡_, refl}
 use mathlib.Core.List.{List, [], _∷_, _++_}
 use Prim.Native.Nat.{ℕ}
 use lib.ListN.{length, getD}
-use Rattle.numbers.specs.Digits.{goesOn, digits}
+use Rattle.digits.specs.Digits.{goesOn, digits}
 use Rattle.tally.specs.declared.Tally.{Tally}
 use Rattle.rule.specs.Settings.{Settings, settings}
 use Rattle.rule.specs.Fit.{hold}

@@ -9,8 +9,8 @@ use native.Mathlib.Nat.{lt-of-lt-of-le}
 use lib.ListN.{length, take, drop, length-take}
 use lib.Pow.{pow-mono}
 use Rattle.numbers.specs.Case.{case-le}
-use Rattle.numbers.specs.Digits.{goesOn, digits, field}
-use Rattle.numbers.proofs.DigitLaws.{grows}
+use Rattle.digits.specs.Digits.{goesOn, digits, field}
+use Rattle.digits.proofs.DigitLaws.{grows}
 use Rattle.rule.specs.Moments.{lastMoment}
 use Rattle.rule.specs.Order.{Order, booking, sweep}
 use Rattle.order.specs.Records.{Reading, unread, opening, order, whole, openingOf, bookingOf, compactOf, sweepOf, byMark, reading, usedBy}

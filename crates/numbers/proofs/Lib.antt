@@ -1,2 +1,1 @@
 pub mod WordLaws
-pub mod DigitLaws

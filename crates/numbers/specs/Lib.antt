@@ -1,4 +1,3 @@
 pub mod Case
 pub mod Words
-pub mod Digits
 pub mod Powers

@@ -6,8 +6,8 @@ use Prim.Native.Nat.{ℕ, zero, suc, _+_, _*_, _≤_, _<_}
 use native.Mathlib.Omega.{arith}
 use lib.ListN.{length, take, length-take}
 use Rattle.numbers.specs.Case.{pick, case-le}
-use Rattle.numbers.specs.Digits.{field}
-use Rattle.numbers.proofs.DigitLaws.{field-front}
+use Rattle.digits.specs.Digits.{field}
+use Rattle.digits.proofs.DigitLaws.{field-front}
 use Rattle.rule.specs.Order.{booking, sweep}
 use Rattle.order.specs.declared.Record.{Record}
 use Rattle.order.specs.Records.{Reading, unread, opening, order, whole, delaysAt, openingOf, bookingOf, compactOf, sweepOf, byMark, reading, usedBy, openingOnly}

@@ -6,7 +6,7 @@ use Prim.Native.Nat.{ℕ, zero, suc, _+_, _*_, _≤_, _<_}
 use native.Mathlib.Omega.{arith}
 use lib.ListN.{length, getD}
 use Rattle.numbers.specs.Case.{pick, case-le}
-use Rattle.numbers.specs.Digits.{field}
+use Rattle.digits.specs.Digits.{field}
 use Rattle.order.specs.Records.{delaysAt}
 use Rattle.order.specs.Read.{delayOf}
 

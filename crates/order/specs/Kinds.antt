@@ -8,7 +8,7 @@ use native.Mathlib.Omega.{arith}
 use lib.Dec.{eqb}
 use lib.ListN.{length}
 use Rattle.numbers.specs.Case.{pick, case-le}
-use Rattle.numbers.specs.Digits.{field}
+use Rattle.digits.specs.Digits.{field}
 use Rattle.order.specs.Records.{Reading, unread, opening, order, whole, openingOf, bookingOf, compactOf, sweepOf, byMark, reading, usedBy}
 
 abbrev pub Kind : Reading → Type 0

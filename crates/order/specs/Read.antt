@@ -5,7 +5,7 @@ use Prim.Native.Nat.{ℕ, _+_, _*_, _^_, _≤_, _<_}
 use lib.Dec.{leb}
 use lib.ListN.{length, take}
 use Rattle.numbers.specs.Case.{pick}
-use Rattle.numbers.specs.Digits.{field}
+use Rattle.digits.specs.Digits.{field}
 use Rattle.rule.specs.Moments.{lastMoment}
 use Rattle.rule.specs.Settings.{longest}
 use Rattle.rule.specs.Order.{booking, sweep}

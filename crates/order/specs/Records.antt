@@ -6,7 +6,7 @@ use Prim.Native.Nat.{ℕ, zero, suc, _+_, _*_}
 use lib.Dec.{leb, eqb}
 use lib.ListN.{length}
 use Rattle.numbers.specs.Case.{pick}
-use Rattle.numbers.specs.Digits.{field}
+use Rattle.digits.specs.Digits.{field}
 use Rattle.rule.specs.Order.{Order, booking, sweep}
 
 -- what an opening says: "channels 1 byte, lines 1, leap 4, floor 6, then 4 for each delay"

@@ -5,7 +5,7 @@ ghost use Prim.Native.Nat.{_+_, _*_, _^_, _≤_, _<_};
 ghost use lib.ListN.{length, take};
 ghost use Rattle.order.specs.Records.{delaysAt, openingOf, bookingOf, compactOf, sweepOf};
 ghost use Rattle.order.specs.Read.{meant, Narrow, Reads, ReadsOpening, delayOf};
-use numbers::digits::field;
+use digits::field;
 
 // What a record says, with its length, or the code it is refused with. A compact booking is a booking with no line
 // permitted; an opening's delays stay in the record (`delay`).

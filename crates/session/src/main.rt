@@ -90,8 +90,8 @@ fn serve(mem: &mut [u8], bytes: &[u8]) {
         io::write_all(1, &out[..end]);
         return;
     }
-    let channels = numbers::digits::field(bytes, 2, 1);
-    let lines = numbers::digits::field(bytes, 3, 1);
+    let channels = digits::field(bytes, 2, 1);
+    let lines = digits::field(bytes, 3, 1);
     let at = lines::opening(&mut out, 0, channels, lines);
     let mut answers = [0u64; 28672];
     play(mem, &bytes[used..], &mut answers, &mut out, at);

@@ -5,7 +5,7 @@ use Prim.Native.Nat.{ℕ, _+_, _*_, _<_}
 use native.Mathlib.Omega.{arith}
 use lib.ListN.{length}
 use borrow.Author.Tests.{lt-leb, le-leb}
-use Rattle.numbers.specs.Digits.{field}
+use Rattle.digits.specs.Digits.{field}
 use Rattle.order.specs.Records.{unread, openingOf}
 use borrow.Author.Needs.{needs}
 use Rattle.order.proofs.opening.Statement.{statement}

@@ -4,7 +4,7 @@ use mathlib.Core.List.{List}
 use Prim.Native.Nat.{ℕ, _≤_, _<_}
 use lib.ListN.{length}
 use borrow.Author.Tests.{lt-leb, le-leb, ne-eqb}
-use Rattle.numbers.specs.Digits.{field}
+use Rattle.digits.specs.Digits.{field}
 use Rattle.order.specs.Records.{unread, byMark, reading}
 use Rattle.order.proofs.Alone.{reads}
 use borrow.Author.Needs.{needs}

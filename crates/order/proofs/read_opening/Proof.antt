@@ -6,7 +6,7 @@ use Prim.Native.Nat.{ℕ, _+_, _*_, _≤_, _<_}
 use lib.ListN.{length}
 use lib.Dec.{eqb, leb}
 use borrow.Author.Tests.{lt-leb, le-leb, ne-eqb}
-use Rattle.numbers.specs.Digits.{field}
+use Rattle.digits.specs.Digits.{field}
 use Rattle.numbers.specs.Case.{pick}
 use Rattle.order.specs.Records.{Reading, unread, openingOf, bookingOf, compactOf, sweepOf, byMark, reading, openingOnly}
 use Rattle.order.proofs.Alone.{reads-opening}

@@ -12,7 +12,7 @@ use Rattle.calls.proofs.open.open.Reads as open-reads
 use Rattle.io.proofs.write_all.Reads as write-all-reads
 use Rattle.lines.proofs.opening.Reads as opening-reads
 use Rattle.lines.proofs.refusal.Reads as refusal-reads
-use Rattle.numbers.proofs.digits.field.Reads as field-reads
+use Rattle.digits.proofs.field.Reads as field-reads
 use Rattle.session.proofs.play.Reads as play-reads
 
 open-requires : tie.Need-open-requires

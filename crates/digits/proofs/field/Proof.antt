@@ -1,16 +1,16 @@
--- `numbers::digits::field`: the part from the place on is as long as the field is wide. Assumes nothing.
+-- `digits::field`: the part from the place on is as long as the field is wide. Assumes nothing.
 use mathlib.Core.Path.{_≡_, ap, _∙_}
 use mathlib.Core.List.{List}
 use Prim.Native.Nat.{ℕ, _+_, _*_, _-_, _^_, _≤_, _<_}
 use native.Mathlib.Omega.{arith}
 use borrow.Author.Needs.{needs}
 use lib.ListN.{length, take, drop, length-take, length-drop}
-use Rattle.numbers.specs.Digits.{digits, field}
-use Rattle.numbers.proofs.digits.field.Statement.{statement}
-use Rattle.numbers.proofs.digits.field.Tie as tie
-use Rattle.numbers.proofs.digits.field.Reads as reads
-use Rattle.numbers.proofs.digits.field.Lts as lts
-use Rattle.numbers.proofs.digits.number.Reads as number-reads
+use Rattle.digits.specs.Digits.{digits, field}
+use Rattle.digits.proofs.field.Statement.{statement}
+use Rattle.digits.proofs.field.Tie as tie
+use Rattle.digits.proofs.field.Reads as reads
+use Rattle.digits.proofs.field.Lts as lts
+use Rattle.digits.proofs.number.Reads as number-reads
 
 part : (s : List ℕ) (i w r : ℕ) → i + w ≤ length s → (r ≡ digits (take (i + w - i) (drop i s))) × (r < 2 ^ (8 * length (take (i + w - i) (drop i s)))) → (r ≡ field i w s) × (r < 2 ^ (8 * w))
 part s i w r h a =

@@ -2,7 +2,7 @@
 ghost use mathlib.Core.Path.{_≡_};
 ghost use Prim.Native.Nat.{_+_, _≤_, _*_, _<_, _^_};
 ghost use lib.ListN.{length};
-ghost use Rattle.numbers.specs.Digits.{digits, field};
+ghost use Rattle.digits.specs.Digits.{digits, field};
 
 fn wide(x: u8) -> u64
     ensures { λ r. ⌜ (r ≡ x) × (r < 256) ⌝ }

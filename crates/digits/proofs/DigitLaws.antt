@@ -8,7 +8,7 @@ use native.Mathlib.Omega.{arith}
 use lib.ListN.{length, take, drop, getD, drop-of-length-le}
 use lib.Seq.{drop-cons, take-take}
 use lib.Pow.{pow-add, pow-mono}
-use Rattle.numbers.specs.Digits.{goesOn, digits, field}
+use Rattle.digits.specs.Digits.{goesOn, digits, field}
 
 -- one byte more
 pub step : (s : List ℕ) (a i : ℕ) → i < length s → goesOn a (drop i s) ≡ goesOn (a * 256 + getD s i 0) (drop (i + 1) s)

@@ -1,16 +1,16 @@
--- `numbers::digits::number` meets its contract: what is read so far, followed by the bytes that are left, is the whole number. Assumes nothing.
+-- `digits::number` meets its contract: what is read so far, followed by the bytes that are left, is the whole number. Assumes nothing.
 use mathlib.Core.Path.{_≡_, refl, sym, ap, _∙_}
 use Prim.Native.Nat.{ℕ, _+_, _*_, _-_, _^_, _≤_, _<_}
 use native.Mathlib.Omega.{arith}
 use borrow.Author.Needs.{needs}
 use lib.ListN.{length, drop, getD}
-use Rattle.numbers.specs.Digits.{digits, goesOn}
-use Rattle.numbers.proofs.DigitLaws.{step, last, grows, small}
-use Rattle.numbers.proofs.digits.number.Statement.{statement}
-use Rattle.numbers.proofs.digits.number.Tie as tie
-use Rattle.numbers.proofs.digits.number.Reads as reads
-use Rattle.numbers.proofs.digits.number.Lts as lts
-use Rattle.numbers.proofs.digits.wide.Reads as wide-reads
+use Rattle.digits.specs.Digits.{digits, goesOn}
+use Rattle.digits.proofs.DigitLaws.{step, last, grows, small}
+use Rattle.digits.proofs.number.Statement.{statement}
+use Rattle.digits.proofs.number.Tie as tie
+use Rattle.digits.proofs.number.Reads as reads
+use Rattle.digits.proofs.number.Lts as lts
+use Rattle.digits.proofs.wide.Reads as wide-reads
 
 abbrev Inv-loop : tie.InvT-loop
 Inv-loop s so-far₀ i₀ so-far i = (i ≤ length s) × (so-far < 2 ^ (8 * i)) × (goesOn so-far (drop i s) ≡ digits s)
