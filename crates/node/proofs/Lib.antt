@@ -3,5 +3,4 @@ pub mod Nodes
 pub mod Reps
 pub mod Once
 pub mod Same
-pub mod Sums
 pub mod Paths

@@ -1,12 +1,8 @@
 // A node of the tree in lent memory: its words, after the header (docs/ARCHITECTURE.md).
 // Above this crate nobody speaks of a node's words: only of the node at a place.
 ghost use mathlib.Core.Path.{_≡_};
-ghost use mathlib.Core.Bool.{true};
-ghost use mathlib.Core.Logic.{_↔_};
 ghost use Prim.Native.Nat.{_+_, _*_, _≤_, _<_};
-ghost use Rattle.node.specs.Layout.{Within, Fits, nodeAt, leafNode, overNode, summedNode, withSums, sumsSaved, SameSums, Saved, Over, Mendable, Summable, Sums};
-use numbers::pairs::larger;
-use numbers::pairs::smaller;
+ghost use Rattle.node.specs.Layout.{Within, Fits, nodeAt, leafNode, withSums, sumsSaved, Saved};
 
 // The layout: the words and bytes of the header, and those of each node after it.
 pub const HEADER_WORDS: usize = 26;
@@ -42,38 +38,6 @@ pub fn leaf(key: u64, end: u64) -> Node
     }
 }
 
-// The node n over two others, its sums taken anew.
-fn summed(n: Node, x: Node, y: Node) -> Node
-    ensures { λ s. ⌜ s ≡ summedNode n x y ⌝ }
-{
-    Node {
-        height: n.height,
-        lo: x.lo,
-        split: y.lo,
-        top: larger(x.top, y.top),
-        low: smaller(x.low, y.low),
-        left: n.left,
-        right: n.right,
-    }
-}
-
-// The node over two others, which stand at l and r.
-fn over(x: Node, y: Node, l: u64, r: u64) -> Node
-    requires { ⌜ (x .height < 4294967295) × (y .height < 4294967295) ⌝ }
-    ensures { λ n. ⌜ n ≡ overNode x y l r ⌝ }
-{
-    let bare = Node {
-        height: larger(x.height, y.height) + 1,
-        lo: 0,
-        split: 0,
-        top: 0,
-        low: 0,
-        left: l,
-        right: r,
-    };
-    summed(bare, x, y)
-}
-
 // The node at place p.
 pub fn load(mem: &[u8], p: usize) -> Node
     requires { ⌜ Within (now mem) p ⌝ }
@@ -93,7 +57,7 @@ pub fn load(mem: &[u8], p: usize) -> Node
 }
 
 // Writes the sums of n at place p; height and places stay.
-fn save_sums(mem: &mut [u8], p: usize, n: Node)
+pub fn save_sums(mem: &mut [u8], p: usize, n: Node)
     requires { ⌜ Within (now mem) p ⌝ }
     ensures { λ _. ⌜ (now (mem .exit) ≡ sumsSaved (now (mem .entry)) p n) × Saved p (withSums n (nodeAt (now (mem .entry)) p)) (now (mem .entry)) (now (mem .exit)) ⌝ }
 {
@@ -113,45 +77,4 @@ pub fn save(mem: &mut [u8], p: usize, n: Node)
     save_sums(mem, p, n);
     let b = NODE_WORDS * p + HEADER_WORDS;
     numbers::words::put(mem, b + 4, n.height * 4294967296 + n.left * 65536 + n.right);
-}
-
-// Writes the node p over the nodes l and r.
-pub fn mend(mem: &mut [u8], p: usize, l: usize, r: usize)
-    requires { ⌜ Mendable (now mem) p l r ⌝ }
-    ensures { λ _. ⌜ Over p l r (now (mem .entry)) (now (mem .exit)) ⌝ }
-{
-    let n = over(load(mem, l), load(mem, r), l as u64, r as u64);
-    save(mem, p, n);
-}
-
-// Whether two nodes say the same of what is below them.
-fn alike(x: Node, y: Node) -> bool
-    ensures { λ b. ⌜ (b ≡ true) ↔ SameSums x y ⌝ }
-{
-    if x.lo != y.lo {
-        return false;
-    }
-    if x.split != y.split {
-        return false;
-    }
-    if x.top != y.top {
-        return false;
-    }
-    x.low == y.low
-}
-
-// Sums up the children of the node p anew. Whether that changed anything.
-pub fn sum_up(mem: &mut [u8], p: usize) -> bool
-    requires { ⌜ Summable (now mem) p ⌝ }
-    ensures { λ b. ⌜ Sums p b (now (mem .entry)) (now (mem .exit)) ⌝ }
-{
-    let n = load(mem, p);
-    let x = load(mem, n.left as usize);
-    let y = load(mem, n.right as usize);
-    let s = summed(n, x, y);
-    if alike(n, s) {
-        return false;
-    }
-    save_sums(mem, p, s);
-    true
 }

@@ -20,7 +20,7 @@ pub fn settle(mem: &mut [u8], way: &[u16], from: usize)
     let mut i = from;
     while 0 < i {
         i -= 1;
-        if !node::sum_up(mem, way[i] as usize) {
+        if !summing::sum_up(mem, way[i] as usize) {
             return;
         }
     }

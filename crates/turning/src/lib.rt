@@ -25,9 +25,9 @@ pub fn mend_on(mem: &mut [u8], p: usize, x: usize, y: usize, left: bool)
     ensures { λ _. ⌜ OverOn left p x y (now (mem .entry)) (now (mem .exit)) ⌝ }
 {
     if left {
-        node::mend(mem, p, x, y);
+        summing::mend(mem, p, x, y);
     } else {
-        node::mend(mem, p, y, x);
+        summing::mend(mem, p, y, x);
     }
 }
 
@@ -68,7 +68,7 @@ pub fn balance(mem: &mut [u8], w: usize, l: usize, r: usize) -> usize
     if hl + 2 <= hr {
         return turn(mem, w, r, l, false);
     }
-    node::mend(mem, w, l, r);
+    summing::mend(mem, w, l, r);
     w
 }
 

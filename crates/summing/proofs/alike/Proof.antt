@@ -1,7 +1,7 @@
 use mathlib.Core.Bool.{false≢true}
 use borrow.Author.Tests.{eqb-true, eq-eqb}
-use Rattle.node.proofs.alike.Statement.{statement}
-use Rattle.node.proofs.alike.Tie as tie
+use Rattle.summing.proofs.alike.Statement.{statement}
+use Rattle.summing.proofs.alike.Tie as tie
 
 returns : tie.Need-returns
 returns c = ((λ h. absurd (false≢true h)), (λ a. absurd (c .if1 .taken (a .0))))

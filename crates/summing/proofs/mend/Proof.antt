@@ -1,7 +1,7 @@
 use borrow.Author.Needs.{needs}
 use Rattle.node.proofs.Nodes.{mended, below-by, over-fits}
-use Rattle.node.proofs.mend.Statement.{statement}
-use Rattle.node.proofs.mend.Tie as tie
+use Rattle.summing.proofs.mend.Statement.{statement}
+use Rattle.summing.proofs.mend.Tie as tie
 
 load-requires : tie.Need-load-requires
 load-requires c κs = search needs

@@ -1,9 +1,9 @@
 use mathlib.Core.Path.{sym, _∙_}
 use mathlib.Core.Bool.{false≢true}
 use borrow.Author.Needs.{needs}
-use Rattle.node.proofs.Sums.{left-in, right-in, sums-none, sums-saved}
-use Rattle.node.proofs.sum_up.Statement.{statement}
-use Rattle.node.proofs.sum_up.Tie as tie
+use Rattle.summing.proofs.Sums.{left-in, right-in, sums-none, sums-saved}
+use Rattle.summing.proofs.sum_up.Statement.{statement}
+use Rattle.summing.proofs.sum_up.Tie as tie
 
 load-requires : tie.Need-load-requires
 load-requires c κs = search needs

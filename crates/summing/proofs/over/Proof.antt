@@ -1,8 +1,8 @@
--- `node::over`: a node with no sums yet, summed up. Assumes nothing.
+-- `summing::over`: a node with no sums yet, summed up. Assumes nothing.
 use mathlib.Core.Path.{_∙_}
 use borrow.Author.Needs.{needs}
-use Rattle.node.proofs.over.Statement.{statement}
-use Rattle.node.proofs.over.Tie as tie
+use Rattle.summing.proofs.over.Statement.{statement}
+use Rattle.summing.proofs.over.Tie as tie
 
 larger-requires : tie.Need-larger-requires
 larger-requires c κs = search needs

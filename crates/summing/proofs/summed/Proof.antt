@@ -1,6 +1,6 @@
 use borrow.Author.Needs.{needs}
-use Rattle.node.proofs.summed.Statement.{statement}
-use Rattle.node.proofs.summed.Tie as tie
+use Rattle.summing.proofs.summed.Statement.{statement}
+use Rattle.summing.proofs.summed.Tie as tie
 
 larger-requires : tie.Need-larger-requires
 larger-requires c κs = search needs
