@@ -53,7 +53,7 @@ pub fn book(mem: &mut [u8], arrival: u64, burst: u64, permitted: u64) -> Answer
     taking::split(mem, &mut way, x.noted, x.key, x.end, start, free);
     Answer {
         code: 0,
-        channel: rule::key::channel(x.key),
+        channel: ruling::key::channel(x.key),
         line: x.line,
         start,
         finish: start + burst,

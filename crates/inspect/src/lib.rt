@@ -68,16 +68,16 @@ fn lawful(channels: u64, floor: u64, key: u64, end: u64) -> bool
     requires { ⌜ floor ≤ lastMoment ⌝ }
     ensures { λ b. ⌜ Says (Lawful channels floor key end) b ⌝ }
 {
-    if channels <= rule::key::channel(key) {
+    if channels <= ruling::key::channel(key) {
         return false;
     }
-    if end <= rule::key::start(key) {
+    if end <= ruling::key::start(key) {
         return false;
     }
     if OPEN_END < end {
         return false;
     }
-    rule::kept::stays(floor, end)
+    ruling::kept::stays(floor, end)
 }
 
 // Whether n is a leaf that comes next; its end is then its channel's last.
@@ -94,8 +94,8 @@ pub fn leaf(ends: &mut [u64], channels: u64, floor: u64, after: u64, n: Node) ->
     if !lawful(channels, floor, n.lo, n.top) {
         return false;
     }
-    let channel = rule::key::channel(n.lo) as usize;
-    if rule::key::start(n.lo) < ends[channel] {
+    let channel = ruling::key::channel(n.lo) as usize;
+    if ruling::key::start(n.lo) < ends[channel] {
         return false;
     }
     ends[channel] = n.top + 1;

@@ -16,7 +16,7 @@ fn widen(mem: &mut [u8], channels: u64, floor: u64)
     let mut c: u64 = 1;
     while c < channels {
         numbers::words::put(mem, memory::CHANNELS, c + 1);
-        memory::add(mem, rule::key::key(floor, c), rule::moments::OPEN_END);
+        memory::add(mem, ruling::key::key(floor, c), rule::moments::OPEN_END);
         c += 1;
     }
 }
@@ -26,7 +26,7 @@ pub fn open(mem: &mut [u8], room: u64, channels: u64, leap: u64, floor: u64, del
     requires { ⌜ floor ≤ lastMoment ⌝ }
     ensures { λ code. ⌜ Opens (settings room channels leap (now (delays .entry))) floor (now (mem .entry)) (now (mem .exit)) code ⌝ }
 {
-    if !rule::bounds::in_bounds(room, channels, leap, delays) {
+    if !ruling::bounds::in_bounds(room, channels, leap, delays) {
         return 1;
     }
     if mem.len() < memory::need(room) {

@@ -63,7 +63,7 @@ pub fn open_single(mem: &mut [u8], room: u64, leap: u64, floor: u64, delays: &[u
     ensures { λ _. ⌜ After (now (mem .entry)) (now (mem .exit)) (single (settings room 1 leap (now (delays .entry))) floor) ⌝ }
 {
     put_header(mem, room, leap, floor, delays);
-    let key = rule::key::key(floor, 0);
+    let key = ruling::key::key(floor, 0);
     node::save(mem, 0, node::leaf(key, rule::moments::OPEN_END));
     lay(mem, (2 * room) as usize);
 }

@@ -1,11 +1,6 @@
-// The rule: the tests of document 01 on plain numbers, each proved equal to its definition in specs/.
-// No tree and no lent memory here.
+// The rule: document 01's definitions (specs/), the answer's numbers, the moments, and the code of the fit and of the codes,
+// proved equal to them. The other tests on plain numbers are in crate ruling. No tree and no lent memory here.
 pub mod answer;
-pub mod bounds;
 pub mod codes;
 pub mod fit;
-pub mod height;
-pub mod kept;
-pub mod key;
 pub mod moments;
-pub mod starts;

@@ -72,7 +72,7 @@ fn walk(mem: &[u8], root: usize, r: u64, f: u64, way: &mut [u16]) -> Way
     requires { ⌜ r ≤ lastMoment ⌝ }
     ensures { λ w. ⌜ ((t : Tree) → Stands (now (mem .entry)) root t → Walked (now (mem .entry)) r f t w) × Trodden (now (mem .entry)) root (now (way .exit)) w ⌝ }
 {
-    let bound = (r + 1) * rule::key::PER_TICK;
+    let bound = (r + 1) * ruling::key::PER_TICK;
     let mut at = root;
     let mut depth: usize = 0;
     let mut marked = false;
@@ -118,7 +118,7 @@ pub fn search(mem: &[u8], root: usize, r: u64, f: u64, way: &mut [u16]) -> Found
 {
     let w = walk(mem, root, r, f, way);
     let n = node::load(mem, w.leaf);
-    if rule::fit::fits(rule::key::start(n.lo), n.top, r, f) {
+    if rule::fit::fits(ruling::key::start(n.lo), n.top, r, f) {
         return Found {
             found: true,
             place: w.leaf,

@@ -71,7 +71,7 @@ pub fn seek(mem: &[u8], arrival: u64, hold: u64, permitted: u64, way: &mut [u16]
     let mut i: usize = 0;
     while i < lines {
         let d = get(mem, memory::DELAYS + i);
-        if rule::starts::tried(arrival, hold, permitted, i as u64, d) {
+        if ruling::starts::tried(arrival, hold, permitted, i as u64, d) {
             let start = arrival + d;
             let x = search::search(mem, root, start, start + hold, way);
             count += x.visits;

@@ -6,10 +6,10 @@ ghost use lib.ListN.{length};
 ghost use Rattle.rule.specs.Settings.{mostLines, rising};
 ghost use Rattle.settled.specs.Says.{Says};
 ghost use Rattle.settled.specs.Settled.{Bounded, listed, Zeros, Settled};
-use rule::bounds::LONGEST;
-use rule::bounds::MOST_CHANNELS;
-use rule::bounds::MOST_LINES;
-use rule::bounds::MOST_ROOM;
+use ruling::bounds::LONGEST;
+use ruling::bounds::MOST_CHANNELS;
+use ruling::bounds::MOST_LINES;
+use ruling::bounds::MOST_ROOM;
 
 // Whether the header's numbers are in bounds.
 fn bounded(room: u64, channels: u64, lines: u64, leap: u64, floor: u64, kept: u64) -> bool
@@ -57,7 +57,7 @@ fn rises(mem: &[u8], lines: usize) -> bool
     let mut before: u64 = 0;
     while i < lines {
         let delay = numbers::words::get(mem, memory::DELAYS + i);
-        if !rule::bounds::rises(before, delay) {
+        if !ruling::bounds::rises(before, delay) {
             return false;
         }
         before = delay;

@@ -94,9 +94,9 @@ pub fn tree(mem: &[u8]) -> bool
     let root = numbers::words::get(mem, memory::ROOT) as usize;
     let kept = numbers::words::get(mem, memory::KEPT);
     let places = (2 * room + 1) as usize;
-    let limit = rule::height::allowed(kept) + 1;
+    let limit = ruling::height::allowed(kept) + 1;
     // one for each channel that a link may have
-    let mut ends = [0u64; rule::bounds::MOST_CHANNELS as usize];
+    let mut ends = [0u64; ruling::bounds::MOST_CHANNELS as usize];
     let s = survey(
         mem,
         &mut ends,

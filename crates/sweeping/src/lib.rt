@@ -29,7 +29,7 @@ pub fn sweep(mem: &mut [u8], moment: u64) -> Answer
             dropped: 0,
         };
     }
-    let dropped = clearing::clear(mem, rule::kept::least(moment));
+    let dropped = clearing::clear(mem, ruling::kept::least(moment));
     memory::refloor(mem, moment);
     Answer {
         code: 0,

@@ -16,9 +16,9 @@ pub fn split(mem: &mut [u8], way: &mut [u16], noted: usize, key: u64, e: u64, r:
     ensures { λ _. ⌜ Splits key e r f (now (mem .entry)) (now (mem .exit)) ⌝ }
 {
     let floor = get(mem, memory::FLOOR);
-    let behind = rule::kept::kept(floor, f, e);
-    let next = rule::key::key(f, rule::key::channel(key));
-    let front = rule::kept::kept(floor, rule::key::start(key), r);
+    let behind = ruling::kept::kept(floor, f, e);
+    let next = ruling::key::key(f, ruling::key::channel(key));
+    let front = ruling::kept::kept(floor, ruling::key::start(key), r);
     if front {
         memory::shorten(mem, way, noted, key, r);
         if behind {
@@ -38,8 +38,8 @@ pub fn too_many(mem: &[u8], key: u64, e: u64, r: u64, f: u64) -> bool
     ensures { λ b. ⌜ ((s : State) → Holds (now (mem .entry)) s → b ≡ overfull s key e r f) ⌝ }
 {
     let floor = get(mem, memory::FLOOR);
-    if rule::kept::kept(floor, rule::key::start(key), r) {
-        if rule::kept::kept(floor, f, e) {
+    if ruling::kept::kept(floor, ruling::key::start(key), r) {
+        if ruling::kept::kept(floor, f, e) {
             return get(mem, memory::ROOM) <= get(mem, memory::KEPT);
         }
     }

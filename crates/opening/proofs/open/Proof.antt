@@ -5,7 +5,7 @@ use Rattle.rule.specs.Settings.{settings, inBounds}
 use Rattle.opening.specs.Stages.{Begun}
 use native.Mathlib.Omega.{arith}
 use Rattle.rule.specs.SettingsLaws.{in-bounds}
-use Rattle.rule.proofs.Bounding.{broken, holds}
+use Rattle.ruling.proofs.Bounding.{broken, holds}
 use Rattle.opening.proofs.Widening.{both}
 use Rattle.opening.proofs.Answering.{bound-broken, too-small, opens}
 use borrow.Author.Needs.{needs}

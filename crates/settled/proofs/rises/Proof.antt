@@ -4,7 +4,7 @@ use mathlib.Core.Path.{_≡_, sym, _∙_}
 use native.Mathlib.Omega.{arith}
 use borrow.Author.Needs.{needs}
 use Rattle.rule.specs.Settings.{rising}
-use Rattle.rule.proofs.Bounding.{broken, holds}
+use Rattle.ruling.proofs.Bounding.{broken, holds}
 use Rattle.settled.specs.Settled.{listed}
 use Rattle.settled.proofs.Settling.{rise-start, rise-next, rise-not, rise-end}
 use Rattle.settled.proofs.rises.Statement.{statement}

@@ -9,8 +9,8 @@ use Rattle.taking.proofs.too_many.Tie as tie
 use Rattle.taking.proofs.too_many.Reads as reads
 use Rattle.taking.proofs.too_many.Lts as lts
 use Rattle.numbers.proofs.words.get.Reads as get-reads
-use Rattle.rule.proofs.kept.kept.Reads as kept-reads
-use Rattle.rule.proofs.key.start.Reads as start-reads
+use Rattle.ruling.proofs.kept.kept.Reads as kept-reads
+use Rattle.ruling.proofs.key.start.Reads as start-reads
 
 get-requires : tie.Need-get-requires
 get-requires c κs = search needs

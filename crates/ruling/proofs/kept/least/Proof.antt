@@ -1,9 +1,9 @@
--- `rule::kept::least`: the floor itself. Assumes nothing.
+-- `ruling::kept::least`: the floor itself. Assumes nothing.
 use mathlib.Core.Path.{refl}
 use native.Mathlib.Omega.{arith}
 use Rattle.rule.specs.Kept.{least}
-use Rattle.rule.proofs.kept.least.Statement.{statement}
-use Rattle.rule.proofs.kept.least.Tie as tie
+use Rattle.ruling.proofs.kept.least.Statement.{statement}
+use Rattle.ruling.proofs.kept.least.Tie as tie
 
 returns : tie.Need-returns
 unfolding least

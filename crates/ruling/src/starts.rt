@@ -1,10 +1,10 @@
-// Which delayed starts are tried (specs/Starts.antt).
+// Which delayed starts are tried (rule/specs/Starts.antt).
 ghost use mathlib.Core.Path.{_≡_};
 ghost use Prim.Native.Nat.{_≤_, _<_};
 ghost use Rattle.rule.specs.Moments.{lastMoment};
 ghost use Rattle.rule.specs.Settings.{longest, mostLines};
 ghost use Rattle.rule.specs.Starts.{tried};
-use crate::moments::LAST_MOMENT;
+use rule::moments::LAST_MOMENT;
 
 // Whether the start that line i + 1 delays by d is tried, for a burst that holds its channel for h ticks.
 pub fn tried(r: u64, h: u64, permitted: u64, i: u64, d: u64) -> bool

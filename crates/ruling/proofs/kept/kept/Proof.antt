@@ -1,8 +1,8 @@
--- `rule::kept::kept` is the definition's test. Assumes nothing.
+-- `ruling::kept::kept` is the definition's test. Assumes nothing.
 use borrow.Author.Needs.{needs}
 use borrow.Author.Tests.{lt-ltb, le-ltb}
-use Rattle.rule.proofs.kept.kept.Statement.{statement}
-use Rattle.rule.proofs.kept.kept.Tie as tie
+use Rattle.ruling.proofs.kept.kept.Statement.{statement}
+use Rattle.ruling.proofs.kept.kept.Tie as tie
 
 stays-requires : tie.Need-stays-requires
 stays-requires c κs = search needs

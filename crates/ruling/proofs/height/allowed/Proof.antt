@@ -1,4 +1,4 @@
--- `rule::height::allowed`: twice the whole part of log2, which a word of 64 bits keeps below 64. Assumes nothing.
+-- `ruling::height::allowed`: twice the whole part of log2, which a word of 64 bits keeps below 64. Assumes nothing.
 use mathlib.Core.Path.{refl}
 use mathlib.Core.Logic.{inl, inr}
 use Prim.Native.Nat.{ℕ, _^_, _<_}
@@ -7,8 +7,8 @@ use borrow.Author.Needs.{needs}
 use lib.Pow.{pow-mono}
 use Rattle.numbers.specs.Case.{case-le}
 use Rattle.numbers.specs.Powers.{Log2}
-use Rattle.rule.proofs.height.allowed.Statement.{statement}
-use Rattle.rule.proofs.height.allowed.Tie as tie
+use Rattle.ruling.proofs.height.allowed.Statement.{statement}
+use Rattle.ruling.proofs.height.allowed.Tie as tie
 
 small : (m r : ℕ) → Log2 m r → m < 2 ^ 64 → r < 64
 small m r a h = elim (case-le 64 r) [ inl y ↦ absurd (omega (arith, a .low, pow-mono (y .0))) | inr y ↦ y .0 ]

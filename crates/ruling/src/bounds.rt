@@ -1,7 +1,7 @@
-// The table of bounds as one test (01, Bounds; specs/Settings.antt). The one place where the code has its numbers.
+// The table of bounds as one test (01, Bounds; rule/specs/Settings.antt). The one place where the code has its numbers.
 ghost use mathlib.Core.Path.{_≡_};
 ghost use Prim.Native.Nat.{suc};
 ghost use Rattle.rule.specs.Settings.{longest, between, rising, settings, inBounds};
 
 pub const MOST_CHANNELS: u64 = 64;
 

@@ -1,8 +1,8 @@
--- `rule::starts::tried` is the definition's test: the bit, then the last moment. Assumes nothing.
+-- `ruling::starts::tried` is the definition's test: the bit, then the last moment. Assumes nothing.
 use borrow.Author.Needs.{needs}
 use borrow.Author.Tests.{eq-eqb, ne-eqb}
-use Rattle.rule.proofs.starts.tried.Statement.{statement}
-use Rattle.rule.proofs.starts.tried.Tie as tie
+use Rattle.ruling.proofs.starts.tried.Statement.{statement}
+use Rattle.ruling.proofs.starts.tried.Tie as tie
 
 shr-if1 : tie.Need-shr-if1
 shr-if1 c = search needs

@@ -1,13 +1,13 @@
--- `rule::bounds::rising`: what is left rises from the last delay on exactly if the whole does from 0 on. Assumes nothing.
+-- `ruling::bounds::rising`: what is left rises from the last delay on exactly if the whole does from 0 on. Assumes nothing.
 use Prim.Native.Nat.{_-_, _≤_}
 use mathlib.Core.Path.{_≡_, refl, sym, _∙_}
 use native.Mathlib.Omega.{arith}
 use borrow.Author.Needs.{needs}
 use lib.ListN.{length, drop}
 use Rattle.rule.specs.Settings.{rising}
-use Rattle.rule.proofs.Bounding.{delays-end, delays-not, delays-next, broken, holds}
-use Rattle.rule.proofs.bounds.rising.Statement.{statement}
-use Rattle.rule.proofs.bounds.rising.Tie as tie
+use Rattle.ruling.proofs.Bounding.{delays-end, delays-not, delays-next, broken, holds}
+use Rattle.ruling.proofs.bounds.rising.Statement.{statement}
+use Rattle.ruling.proofs.bounds.rising.Tie as tie
 
 abbrev Inv-loop : tie.InvT-loop
 Inv-loop delays last₀ i₀ last i = (i ≤ length delays) × (rising last (drop i delays) ≡ rising 0 delays)

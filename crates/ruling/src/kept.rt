@@ -1,8 +1,8 @@
-// Which voids are kept: at a floor, and of a booking's pieces (specs/Kept.antt).
+// Which voids are kept: at a floor, and of a booking's pieces (rule/specs/Kept.antt).
 ghost use mathlib.Core.Path.{_≡_};
 ghost use Prim.Native.Nat.{_≤_};
 ghost use Rattle.rule.specs.Moments.{lastMoment, openEnd};
 ghost use Rattle.rule.specs.Kept.{least, stays, kept};
 
 // The least end of a void that stays at the floor.
 pub fn least(floor: u64) -> u64

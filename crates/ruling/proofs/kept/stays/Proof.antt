@@ -1,7 +1,7 @@
--- `rule::kept::stays` is the definition's test. Assumes nothing.
+-- `ruling::kept::stays` is the definition's test. Assumes nothing.
 use borrow.Author.Needs.{needs}
-use Rattle.rule.proofs.kept.stays.Statement.{statement}
-use Rattle.rule.proofs.kept.stays.Tie as tie
+use Rattle.ruling.proofs.kept.stays.Statement.{statement}
+use Rattle.ruling.proofs.kept.stays.Tie as tie
 
 least-requires : tie.Need-least-requires
 least-requires c κs = search needs

@@ -1,8 +1,8 @@
-// The packed key of a void's start and channel, and back (specs/Key.antt).
+// The packed key of a void's start and channel, and back (rule/specs/Key.antt).
 ghost use mathlib.Core.Path.{_≡_};
 ghost use Prim.Native.Nat.{_≤_, _<_};
 ghost use Rattle.rule.specs.Moments.{openEnd};
 ghost use Rattle.rule.specs.Key.{keyOf, startOf, channelOf, perTick};
 
 pub const PER_TICK: u64 = 1024;
 

@@ -1,9 +1,9 @@
--- `rule::bounds::rises` is the definition's test. Assumes nothing.
+-- `ruling::bounds::rises` is the definition's test. Assumes nothing.
 use Prim.Native.Nat.{suc}
 use native.Mathlib.Omega.{arith}
 use borrow.Author.Tests.{le-leb, lt-leb}
-use Rattle.rule.proofs.bounds.rises.Statement.{statement}
-use Rattle.rule.proofs.bounds.rises.Tie as tie
+use Rattle.ruling.proofs.bounds.rises.Statement.{statement}
+use Rattle.ruling.proofs.bounds.rises.Tie as tie
 
 returns : tie.Need-returns
 returns c =

@@ -1,7 +1,7 @@
--- `rule::bounds::between` is the definition's test. Assumes nothing.
+-- `ruling::bounds::between` is the definition's test. Assumes nothing.
 use borrow.Author.Tests.{le-leb, lt-leb}
-use Rattle.rule.proofs.bounds.between.Statement.{statement}
-use Rattle.rule.proofs.bounds.between.Tie as tie
+use Rattle.ruling.proofs.bounds.between.Statement.{statement}
+use Rattle.ruling.proofs.bounds.between.Tie as tie
 
 returns : tie.Need-returns
 returns c = simp (le-leb _ _ (c .if1 .taken))
