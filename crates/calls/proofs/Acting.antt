@@ -19,10 +19,11 @@ use Rattle.state.specs.Act.{act}
 use Rattle.state.specs.Sound.{Sound}
 use Rattle.memory.specs.Holds.{Whole, After}
 use Rattle.stepping.specs.Step.{Stepped, stepOn, unused}
+use Rattle.running.specs.declared.RunDone.{RunDone}
+use Rattle.running.specs.Run.{Ran, ended, answered, onward, runFrom, runOn, flat}
+use Rattle.running.specs.Runs.{RunsTo, Runs}
 use Rattle.calls.specs.declared.act.Done.{Done}
-use Rattle.calls.specs.declared.run.RunDone.{RunDone}
-use Rattle.calls.specs.Run.{Ran, ended, answered, onward, runFrom, runOn, flat}
-use Rattle.calls.specs.Calls.{Unused, StepsTo, Acts, RunsTo, Runs}
+use Rattle.calls.specs.Calls.{Unused, StepsTo, Acts}
 
 -- ---- with no room for seven numbers a run stops where it is
 record Stops (y : Ran) (s : State) (t : Tally) (p : ℕ) : Type 0 where

@@ -1,5 +1,4 @@
 pub mod Opening
-pub mod Deciding
-pub mod Running
+pub mod Telling
 pub mod Acting
 pub mod Within

@@ -1,25 +1,17 @@
--- What the public calls promise, for every input: of a memory that holds a whole link, and of one that does not.
+-- What acting on a record and telling promise, for every input: of a memory that holds a whole link, and of one that does not.
 use mathlib.Core.Path.{_≡_}
-use mathlib.Core.Logic.{_⊎_}
-use mathlib.Core.List.{List, [], _∷_, _++_}
-use Prim.Native.Nat.{ℕ, _*_}
-use lib.ListN.{length, drop}
+use mathlib.Core.List.{List}
+use Prim.Native.Nat.{ℕ}
 use Rattle.tally.specs.declared.Tally.{Tally}
 use Rattle.rule.specs.Answer.{refused, seven, numbersOf}
 use Rattle.order.specs.Records.{reading}
 use Rattle.shape.specs.Tree.{size}
-use Rattle.state.specs.State.{State}
 use Rattle.state.specs.Sound.{Sound}
-use Rattle.memory.specs.Holds.{Holds, Whole, After}
+use Rattle.memory.specs.Holds.{After}
 use Rattle.stepping.specs.Step.{Stepped, stepOn}
+use Rattle.running.specs.Runs.{Gives}
 use Rattle.calls.specs.declared.act.Done.{Done}
-use Rattle.calls.specs.declared.run.RunDone.{RunDone}
 use Rattle.calls.specs.declared.tell.Told.{Told}
-use Rattle.calls.specs.Run.{Ran, runOn, flat}
-
--- what a call gives, by what the memory holds: f of the whole link s, or b where it holds none (code 2)
-abbrev pub Gives : List ℕ → (State → Type 0) → Type 0 → Type 0
-Gives m f b = ((s : State) × Sound s × Holds m s × f s) ⊎ ((Whole m → ⊥) × b)
 
 -- ---- act
 pub record StepsTo (x : Stepped) (d : Done) (m m′ : List ℕ) : Type 0 where
@@ -43,25 +35,6 @@ pub record ActsNot (t : Tally) (d : Done) (m m′ : List ℕ) : Type 0 where
 
 abbrev pub Acts : Tally → (bytes : List ℕ) → Done → (m m′ : List ℕ) → Type 0
 Acts t bytes d m m′ = Gives m (λ s. StepsTo (stepOn s t (reading bytes)) d m m′) (ActsNot t d m m′)
-
--- ---- run. out, out′: the answer slice before and after
-pub record RunsTo (y : Ran) (x : RunDone) (m m′ out out′ : List ℕ) : Type 0 where
-  pub code : x .ran .code ≡ y .code
-  pub place : x .ran .place ≡ y .place
-  pub answered : x .ran .answered ≡ length (y .answers)
-  pub tally : x .tally ≡ y .tally
-  pub after : After m m′ (y .state)
-  pub sound : Sound (y .state)
-  -- "The unused part of the answer slice is untouched."
-  pub slice : out′ ≡ flat (y .answers) ++ drop (7 * length (y .answers)) out
-
-pub record RunsNot (t : Tally) (x : RunDone) (m m′ out out′ : List ℕ) : Type 0 where
-  pub answer : x ≡ record { tally = t; ran = record { code = 2; place = 0; answered = 0 } }
-  pub same : m′ ≡ m
-  pub slice : out′ ≡ out
-
-abbrev pub Runs : Tally → (bytes : List ℕ) → RunDone → (m m′ out out′ : List ℕ) → Type 0
-Runs t bytes x m m′ out out′ = Gives m (λ s. RunsTo (runOn s t (length out) bytes) x m m′ out out′) (RunsNot t x m m′ out out′)
 
 -- ---- tell
 abbrev pub Tells : Told → List ℕ → Type 0

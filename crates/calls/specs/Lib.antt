@@ -1,3 +1,2 @@
 pub mod Opens
-pub mod Run
 pub mod Calls

@@ -1,6 +1,5 @@
 // Acting on the single record at the start of a buffer (specs/Calls.antt, `Acts`): a run with room for one answer.
 ghost use Rattle.calls.specs.Calls.{Unused, Acts};
-use crate::run::run;
 use rule::answer::Answer;
 use tally::Tally;
 
@@ -41,7 +40,7 @@ pub fn act(mem: &mut [u8], tally: Tally, bytes: &[u8]) -> Done
     ensures { λ d. ⌜ Acts tally (now (bytes .entry)) d (now (mem .entry)) (now (mem .exit)) ⌝ }
 {
     let mut numbers = [0u64; 7];
-    let done = run(mem, tally, bytes, &mut numbers);
+    let done = running::run(mem, tally, bytes, &mut numbers);
     let ran = done.ran;
     if ran.code == 2 {
         return refused(2, tally);

@@ -1,12 +1,12 @@
-// The doors: the four public calls as C sees them, over one lent memory. Each is the call of crate `calls`; the tally, which
-// that crate takes and gives back by value, is taken here by reference.
+// The doors: the four public calls as C sees them, over one lent memory. Each is the call of crate `calls`, the run that of
+// crate `running`; the tally, which those take and give back by value, is taken here by reference.
 ghost use Rattle.door.specs.Doors.{ActsAt, RunsAt};
 ghost use Rattle.calls.specs.Opens.{Opens};
 ghost use Rattle.calls.specs.Calls.{Tells};
 use calls::act::Acted;
 use calls::open::Opened;
-use calls::run::Ran;
 use calls::tell::Told;
+use running::Ran;
 use tally::Tally;
 
 #[no_mangle]
@@ -34,7 +34,7 @@ pub extern "C" fn curlywether_run(
 ) -> Ran
     ensures { λ a. ⌜ RunsAt (now (tally .entry)) (now (records .entry)) (now (tally .exit)) a (now (memory .entry)) (now (memory .exit)) (now (answers .entry)) (now (answers .exit)) ⌝ }
 {
-    let done = calls::run::run(memory, *tally, records, answers);
+    let done = running::run(memory, *tally, records, answers);
     *tally = done.tally;
     done.ran
 }

@@ -28,12 +28,13 @@ use Rattle.opening.proofs.Same
 use Rattle.stepping.specs.Step.{Stepped, stepOn}
 use Rattle.calls.specs.declared.open.Opened.{Opened}
 use Rattle.calls.specs.declared.act.Done.{Done}
-use Rattle.calls.specs.declared.run.RunDone.{RunDone}
+use Rattle.running.specs.declared.RunDone.{RunDone}
 use Rattle.calls.specs.declared.tell.Told.{Told}
 use Rattle.calls.specs.Opens.{settingsOf, OpensAs, OpensRead, Opens}
-use Rattle.calls.specs.Run.{runOn, flat}
-use Rattle.calls.specs.Calls.{Acts, Runs, Tells}
-use Rattle.calls.proofs.Within.{run-within}
+use Rattle.running.specs.Run.{runOn, flat}
+use Rattle.running.specs.Runs.{Runs}
+use Rattle.calls.specs.Calls.{Acts, Tells}
+use Rattle.running.proofs.Within.{run-within}
 use Rattle.grounds.specs.Orders.{ordersIn, sevens, after}
 use Rattle.grounds.specs.RecordLaws.{Fair, reading-fair}
 use Rattle.grounds.specs.ReplyLaws.{Apt, act-apt}

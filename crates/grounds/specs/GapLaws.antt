@@ -17,7 +17,7 @@ use Rattle.state.specs.Range.{InRange, AllInRange}
 use Rattle.state.specs.History.{Event}
 use Rattle.state.specs.Life.{Life, born, next, live}
 use Rattle.state.specs.HistoryLaws.{now-sound, now-settings, now-floor, voids-of-history}
-use Rattle.calls.specs.Run.{flat}
+use Rattle.running.specs.Run.{flat}
 use Rattle.memory.specs.Holds.{Holds}
 use Rattle.grounds.specs.Orders.{sevens}
 use Rattle.grounds.specs.Sevens.{seven-take, seven-drop}

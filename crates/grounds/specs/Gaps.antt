@@ -16,9 +16,10 @@ use Rattle.state.specs.VoidLaws.{length-voids}
 use Rattle.state.specs.History.{Event}
 use Rattle.memory.specs.Holds.{Holds, Whole}
 use Rattle.calls.specs.declared.act.Done.{Done}
-use Rattle.calls.specs.declared.run.RunDone.{RunDone}
+use Rattle.running.specs.declared.RunDone.{RunDone}
 use Rattle.calls.specs.declared.tell.Told.{Told}
-use Rattle.calls.specs.Calls.{Acts, Runs, Tells}
+use Rattle.running.specs.Runs.{Runs}
+use Rattle.calls.specs.Calls.{Acts, Tells}
 use Rattle.grounds.specs.Memories.{tells-of, same-link}
 use Rattle.grounds.specs.Doors.{act-door, run-door}
 use Rattle.grounds.specs.Session.{Call, Since, more, heardAll, Each}

@@ -19,7 +19,7 @@ use Rattle.state.specs.Act.{split, cleared}
 use Rattle.state.specs.Open.{widen, fresh}
 use Rattle.memory.specs.Header.{need}
 use Rattle.opening.specs.Opening.{openingCode}
-use Rattle.calls.specs.Run.{Ran, runOn}
+use Rattle.running.specs.Run.{Ran, runOn}
 
 -- OL with 2 channels, 1 line, leap 1000, floor 0, delay 5
 abbrev first : List ℕ

@@ -18,10 +18,11 @@ use Rattle.memory.specs.Holds.{Holds, After}
 use Rattle.memory.proofs.Same.{one-link, determined, one-after}
 use Rattle.stepping.specs.Step.{stepOn}
 use Rattle.calls.specs.declared.act.Done.{Done}
-use Rattle.calls.specs.declared.run.RunDone.{RunDone}
+use Rattle.running.specs.declared.RunDone.{RunDone}
 use Rattle.calls.specs.declared.tell.Told.{Told}
-use Rattle.calls.specs.Run.{runOn}
-use Rattle.calls.specs.Calls.{Gives, StepsTo, ActsNot, Acts, RunsTo, RunsNot, Runs, Tells}
+use Rattle.running.specs.Run.{runOn}
+use Rattle.running.specs.Runs.{Gives, RunsTo, RunsNot, Runs}
+use Rattle.calls.specs.Calls.{StepsTo, ActsNot, Acts, Tells}
 
 -- what a run gives is its parts
 pub whole-run : (x : RunDone) → x ≡ record { tally = x .tally; ran = record { code = x .ran .code; place = x .ran .place; answered = x .ran .answered } }

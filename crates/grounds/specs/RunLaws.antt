@@ -22,7 +22,7 @@ use Rattle.state.specs.SoundLaws.{act-sound}
 use Rattle.state.specs.SettingsLaws.{act-settings}
 use Rattle.state.specs.Range.{AllInRange}
 use Rattle.stepping.specs.Step.{stepOn}
-use Rattle.calls.specs.Run.{Ran, ended, answered, onward, runFrom, runOn}
+use Rattle.running.specs.Run.{Ran, ended, answered, onward, runFrom, runOn}
 use Rattle.grounds.specs.Orders.{ordersIn, orders-one, sevens, after, tallied}
 use Rattle.grounds.specs.ReplyLaws.{act-apt, row-apt}
 use Rattle.grounds.specs.Sevens.{coded-same}

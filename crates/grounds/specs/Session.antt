@@ -17,10 +17,11 @@ use Rattle.node.proofs.Same.{Bytes}
 use Rattle.state.specs.History.{Event, books, sweeps}
 use Rattle.calls.specs.declared.open.Opened.{Opened}
 use Rattle.calls.specs.declared.act.Done.{Done}
-use Rattle.calls.specs.declared.run.RunDone.{RunDone}
+use Rattle.running.specs.declared.RunDone.{RunDone}
 use Rattle.calls.specs.declared.tell.Told.{Told}
 use Rattle.calls.specs.Opens.{Opens}
-use Rattle.calls.specs.Calls.{Acts, Runs, Tells}
+use Rattle.running.specs.Runs.{Runs}
+use Rattle.calls.specs.Calls.{Acts, Tells}
 use Rattle.grounds.specs.Orders.{ordersIn}
 
 -- a call from the memory m to m′, with the orders in its bytes and the numbers that answer them, seven for each. Any tally may be lent, and

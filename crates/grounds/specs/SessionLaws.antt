@@ -31,7 +31,7 @@ use Rattle.opening.specs.Opening.{openingCode}
 use Rattle.stepping.specs.Step.{stepOn}
 use Rattle.calls.specs.declared.open.Opened.{Opened}
 use Rattle.calls.specs.Opens.{OpensAs, OpensRead, Opens}
-use Rattle.calls.specs.Run.{runOn, flat}
+use Rattle.running.specs.Run.{runOn, flat}
 use Rattle.calls.specs.Calls.{StepsTo}
 use Rattle.grounds.specs.Orders.{ordersIn, orders-one, orders-unread, orders-opening, sevens, after}
 use Rattle.grounds.specs.RecordLaws.{Fair, reading-fair, order-fair}

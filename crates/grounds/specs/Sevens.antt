@@ -12,7 +12,7 @@ use Rattle.rule.specs.Answer.{Reply, booked, swept, refused, seven}
 use Rattle.state.specs.State.{State}
 use Rattle.state.specs.Act.{act}
 use Rattle.state.specs.RefusedLaws.{refused-same}
-use Rattle.calls.specs.Run.{flat}
+use Rattle.running.specs.Run.{flat}
 use Rattle.grounds.specs.Orders.{sevens, after}
 
 -- of n answers, each of seven numbers, none has code 0

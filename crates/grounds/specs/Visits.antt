@@ -30,10 +30,11 @@ use Rattle.state.specs.CountLaws.{act-count, refused-count, sweep-count}
 use Rattle.memory.specs.Holds.{Holds}
 use Rattle.stepping.specs.Step.{stepOn}
 use Rattle.calls.specs.declared.act.Done.{Done}
-use Rattle.calls.specs.declared.run.RunDone.{RunDone}
+use Rattle.running.specs.declared.RunDone.{RunDone}
 use Rattle.calls.specs.declared.tell.Told.{Told}
-use Rattle.calls.specs.Run.{runOn, flat}
-use Rattle.calls.specs.Calls.{Acts, Runs, Tells}
+use Rattle.running.specs.Run.{runOn, flat}
+use Rattle.running.specs.Runs.{Runs}
+use Rattle.calls.specs.Calls.{Acts, Tells}
 use Rattle.grounds.specs.Orders.{ordersIn, sevens}
 use Rattle.grounds.specs.RunLaws.{run-is-orders}
 use Rattle.grounds.specs.ReplyLaws.{Apt, act-apt}

@@ -13,9 +13,10 @@ use Rattle.order.specs.Records.{order, reading}
 use Rattle.node.proofs.Same.{Bytes}
 use Rattle.state.specs.History.{Event, floorOf, Stretches}
 use Rattle.calls.specs.declared.act.Done.{Done}
-use Rattle.calls.specs.declared.run.RunDone.{RunDone}
+use Rattle.running.specs.declared.RunDone.{RunDone}
 use Rattle.calls.specs.declared.tell.Told.{Told}
-use Rattle.calls.specs.Calls.{Acts, Runs, Tells}
+use Rattle.running.specs.Runs.{Runs}
+use Rattle.calls.specs.Calls.{Acts, Tells}
 use Rattle.grounds.specs.Orders.{ordersIn, orders-one}
 use Rattle.grounds.specs.Session.{Call, acting, Since, Each}
 use Rattle.grounds.specs.Answered.{Many, Answered}

@@ -19,11 +19,12 @@ use Rattle.opening.proofs.Widening.{placed-fresh}
 use Rattle.stepping.specs.Step.{stepOn}
 use Rattle.calls.specs.declared.open.Opened.{Opened}
 use Rattle.calls.specs.declared.act.Done.{Done}
-use Rattle.calls.specs.declared.run.RunDone.{RunDone}
+use Rattle.running.specs.declared.RunDone.{RunDone}
 use Rattle.calls.specs.declared.tell.Told.{Told}
 use Rattle.calls.specs.Opens.{settingsOf, OpensAs, OpensRead, Opens}
-use Rattle.calls.specs.Run.{runOn}
-use Rattle.calls.specs.Calls.{StepsTo, ActsNot, Acts, RunsTo, RunsNot, Runs, Tells}
+use Rattle.running.specs.Run.{runOn}
+use Rattle.running.specs.Runs.{RunsTo, RunsNot, Runs}
+use Rattle.calls.specs.Calls.{StepsTo, ActsNot, Acts, Tells}
 use Rattle.grounds.specs.Memories.{whole-run, gives-both, after-one}
 
 -- the seven numbers fix the answer

@@ -14,10 +14,11 @@ use Rattle.memory.specs.Header.{need}
 use Rattle.memory.specs.Holds.{Past}
 use Rattle.calls.specs.declared.open.Opened.{Opened}
 use Rattle.calls.specs.declared.act.Done.{Done}
-use Rattle.calls.specs.declared.run.RunDone.{RunDone}
+use Rattle.running.specs.declared.RunDone.{RunDone}
 use Rattle.calls.specs.declared.tell.Told.{Told}
 use Rattle.calls.specs.Opens.{Opens}
-use Rattle.calls.specs.Calls.{Acts, Runs, Tells}
+use Rattle.running.specs.Runs.{Runs}
+use Rattle.calls.specs.Calls.{Acts, Tells}
 use Rattle.grounds.specs.Sevens.{AllRefused, all-refused}
 use Rattle.grounds.specs.Doors.{open-door, act-door, run-door, tell-door}
 

@@ -21,9 +21,10 @@ use Rattle.memory.specs.Holds.{Holds, After}
 use Rattle.memory.proofs.Whole.{after-none, after-then}
 use Rattle.stepping.specs.Step.{stepOn}
 use Rattle.calls.specs.declared.act.Done.{Done}
-use Rattle.calls.specs.declared.run.RunDone.{RunDone}
-use Rattle.calls.specs.Run.{runOn, flat}
-use Rattle.calls.specs.Calls.{StepsTo, Acts, Runs}
+use Rattle.running.specs.declared.RunDone.{RunDone}
+use Rattle.running.specs.Run.{runOn, flat}
+use Rattle.running.specs.Runs.{Runs}
+use Rattle.calls.specs.Calls.{StepsTo, Acts}
 use Rattle.grounds.specs.Orders.{ordersIn, orders-one, sevens, after, tallied}
 use Rattle.grounds.specs.RecordLaws.{bytes-drop, order-fair}
 use Rattle.grounds.specs.RunLaws.{run-is-orders, after-sound, after-settings, Below, below-all, sum-rises}

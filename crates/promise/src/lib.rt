@@ -1,2 +1,2 @@
-// The three demands of the statement as theorems over what the public calls promise (crate calls).
+// The three demands of the statement as theorems over what the public calls promise (crates running and calls).
 // The theorems are in specs/. No code.

@@ -2,8 +2,8 @@
 // prints what each record is answered. The least record has eight bytes, so 4,096 answers are room for all of them.
 ghost use Prim.Native.Nat.{_+_, _*_, _≤_};
 ghost use lib.ListN.{length};
-use calls::run::Ran;
 use rule::answer::Answer;
+use running::Ran;
 use tally::Tally;
 
 const ROOM: u64 = 256;
@@ -70,7 +70,7 @@ fn ending(out: &mut [u8], from: usize, ran: Ran) -> usize
 fn play(mem: &mut [u8], records: &[u8], numbers: &mut [u64], out: &mut [u8], from: usize)
     requires { ⌜ (from ≤ length (now out)) × (128 ≤ length (now out)) × (length (now numbers) ≤ 28672) ⌝ }
 {
-    let done = calls::run::run(mem, nothing_counted(), records, numbers);
+    let done = running::run(mem, nothing_counted(), records, numbers);
     let ran = done.ran;
     let at = answers(out, from, numbers, ran.answered);
     let last = ending(out, at, ran);

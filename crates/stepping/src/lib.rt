@@ -15,7 +15,7 @@ pub struct Single {
 // The row of what is no order: none.
 const NO_ROW: u64 = 10;
 
-// One record on a whole link. It has one caller, the loop of `calls::run::run`, and leaves the tally to it: so both are
+// One record on a whole link. It has one caller, the loop of `running::run`, and leaves the tally to it: so both are
 // compiled into one loop that copies neither an answer nor a tally (docs/DECISIONS.md).
 pub fn step(mem: &mut [u8], bytes: &[u8]) -> Single
     requires { ⌜ Whole (now mem) ⌝ }

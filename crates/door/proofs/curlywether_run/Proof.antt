@@ -42,20 +42,20 @@ use denote.Triple.Clauses.{ensured, lasts}
 use denote.Triple.Walked.{says, needs, Stays, stay-ref, stay-none, stay-none-slice, gave-slice, walkOf, AllGo, goes-ref, goes-none, goes-none-slice, goes-gave-slice, Walks, ends-at, walked, walk-meets}
 use denote.Exit.{yes}
 use lib.ListN.{length}
-use Rattle.calls.specs.Calls.{Runs}
+use Rattle.running.specs.Runs.{Runs}
 use Rattle.tally.specs.declared.Tally.{Tally}
 use Rattle.tally.proofs.Tally as T
 use Rattle.tally.proofs.Tally.Laws as T′
-use Rattle.calls.specs.declared.run.Ran.{Ran}
-use Rattle.calls.proofs.run.Ran as N
-use Rattle.calls.proofs.run.Ran.Laws as N′
-use Rattle.calls.specs.declared.run.RunDone.{RunDone}
-use Rattle.calls.proofs.run.RunDone as D
-use Rattle.calls.proofs.run.RunDone.Laws as D′
-use Rattle.calls.proofs.run.run as core
-use Rattle.calls.proofs.run.run.Symbol as core-def
-use Rattle.calls.proofs.run.run.Symbol.{name as #core}
-use Rattle.calls.proofs.run.run.Met as core-thm
+use Rattle.running.specs.declared.Ran.{Ran}
+use Rattle.running.proofs.Ran as N
+use Rattle.running.proofs.Ran.Laws as N′
+use Rattle.running.specs.declared.RunDone.{RunDone}
+use Rattle.running.proofs.RunDone as D
+use Rattle.running.proofs.RunDone.Laws as D′
+use Rattle.running.proofs.run as core
+use Rattle.running.proofs.run.Symbol as core-def
+use Rattle.running.proofs.run.Symbol.{name as #core}
+use Rattle.running.proofs.run.Met as core-thm
 use Rattle.door.proofs.curlywether_run.Key.{name as #door}
 use Rattle.door.proofs.curlywether_run as f
 use Rattle.door.proofs.curlywether_run.Statement as stated
@@ -180,4 +180,4 @@ curlywether-run-spec 𝓤 H 𝓜 𝓖 𝓡 =
     entered 𝓤 H (tripleOf 𝓤 H (𝓖 .A) f.signature (f.spec 𝓤 H (𝓖 .A) (𝓜 .mem) (𝓡 .run)))
     (tables 𝓤 H 𝓜 𝓡 code.env .C) (tables 𝓤 H 𝓜 𝓡 code.env .Λ) #door code.function (code.unfolded 𝓤 H 𝓜 𝓡)
     (meets 𝓤 H (𝓖 .A) (givenOf 𝓤 H 𝓜 𝓖) (𝓜 .mem) (𝓡 .run) (tablesOf 𝓤 H 𝓜 (tables 𝓤 H 𝓜 𝓡 code.env))
-    (cited 𝓤 H (Core 𝓤 H (𝓖 .A) (𝓜 .mem) (𝓡 .run)) 𝓜 𝓡 code.env #core core-def.routine code.calls-calls·run·run (core-thm.met 𝓤 H 𝓜 𝓖 𝓡)))
+    (cited 𝓤 H (Core 𝓤 H (𝓖 .A) (𝓜 .mem) (𝓡 .run)) 𝓜 𝓡 code.env #core core-def.routine code.calls-running·run (core-thm.met 𝓤 H 𝓜 𝓖 𝓡)))

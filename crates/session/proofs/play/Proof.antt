@@ -1,13 +1,13 @@
 -- `session::play`: the answers lie within their slice, by the run's own contract. Assumes nothing.
 use native.Mathlib.Omega.{arith}
 use lib.ListN.{length-take}
-use Rattle.calls.proofs.Within.{run-within}
+use Rattle.running.proofs.Within.{run-within}
 use borrow.Author.Needs.{needs}
 use Rattle.session.proofs.play.Statement.{statement}
 use Rattle.session.proofs.play.Tie as tie
 use Rattle.session.proofs.play.Reads as reads
 use Rattle.session.proofs.play.Lts as lts
-use Rattle.calls.proofs.run.run.Reads as run-reads
+use Rattle.running.proofs.run.Reads as run-reads
 use Rattle.calls.proofs.tell.tell.Reads as tell-reads
 use Rattle.io.proofs.write_all.Reads as write-all-reads
 use Rattle.lines.proofs.kept.Reads as kept-reads

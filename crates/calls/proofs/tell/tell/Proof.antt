@@ -3,7 +3,8 @@ use mathlib.Core.Logic.{inl, inr}
 use mathlib.Core.Path.{_≡_, refl}
 use native.Mathlib.Omega.{arith}
 use borrow.Author.Tests.{not-true, not-false}
-use Rattle.calls.proofs.Deciding.{yes-whole, no-whole, told, header-long}
+use Rattle.running.proofs.Deciding.{yes-whole, no-whole}
+use Rattle.calls.proofs.Telling.{told, header-long}
 use borrow.Author.Needs.{needs}
 use Rattle.calls.proofs.tell.tell.Statement.{statement}
 use Rattle.calls.proofs.tell.tell.Tie as tie

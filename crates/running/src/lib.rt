@@ -1,6 +1,7 @@
-// A run of records, seven numbers of answer for each (specs/Calls.antt, `Runs`). The memory is checked once, at the start.
+// A run of records, the tally by value, seven numbers of answer for each (specs/Runs.antt, `Runs`). The memory is checked
+// once, at the start; nothing is asked of the caller. Crate `calls` acts on one record by it, crate `door` exports it.
 ghost use mathlib.Core.Path.{_≡_};
-ghost use Rattle.calls.specs.Calls.{Runs};
+ghost use Rattle.running.specs.Runs.{Runs};
 use tally::Tally;
 
 // What a run gives: the code that ended it, the place of the first byte not acted on, the records answered.

@@ -24,17 +24,9 @@ use Rattle.memory.proofs.Whole.{after-none, after-then}
 use Rattle.stepping.specs.declared.Single.{Single}
 use Rattle.stepping.specs.Step.{Stepped, stepOn}
 use Rattle.stepping.specs.Steps.{StepsOn, Steps}
-use Rattle.calls.specs.declared.act.Done.{Done}
-use Rattle.calls.specs.declared.run.RunDone.{RunDone}
-use Rattle.calls.specs.Run.{Ran, ended, answered, onward, runFrom, runOn, flat}
-use Rattle.calls.specs.Calls.{Gives, StepsTo, RunsTo, Runs, RunsNot}
-
--- ---- a step, as the record acted on: what it gave, and the tally with its row raised
-abbrev counted : Tally → Single → Done
-counted t x = record { tally = raised t (x .row); acted = record { answer = x .answer; used = x .used } }
-
-counted-steps : (y : Stepped) (t : Tally) (x : Single) (m m′ : List ℕ) → StepsOn y t x m m′ → StepsTo y (counted t x) m m′
-counted-steps y t x m m′ z = record { numbers = z .numbers; used = z .used; tally = z .tally; after = z .after; sound = z .sound }
+use Rattle.running.specs.declared.RunDone.{RunDone}
+use Rattle.running.specs.Run.{Ran, ended, answered, onward, runFrom, runOn, flat}
+use Rattle.running.specs.Runs.{Gives, RunsTo, Runs, RunsNot}
 
 -- what is said of y, said of what is equal to it
 pub runs-as : (t : Tally) (bytes m m′ out out′ : List ℕ) (x y : RunDone) → x ≡ y → Runs t bytes y m m′ out out′ → Runs t bytes x m m′ out out′
@@ -182,8 +174,8 @@ module _ {m₀ bytes out₀ : List ℕ} {t₀ : Tally} {m out : List ℕ} {t : T
       (λ n. full n (p .state) t (length out - written) place (drop place bytes) (omega (arith, left)) r))
 
   module _ (h : place < length bytes) (r : 7 ≤ length out - written) (m′ : List ℕ) (x : Single) (f : Steps (drop place bytes) x m m′) where
-    step : StepsTo (stepOn (p .state) t (reading (drop place bytes))) (counted t x) m m′
-    step = counted-steps _ t x m m′ (f (p .state) (p .sound) (p .after .holds) t)
+    step : StepsOn (stepOn (p .state) t (reading (drop place bytes))) t x m m′
+    step = f (p .state) (p .sound) (p .after .holds) t
 
     pub run-stuck : x .used ≡ 0 → Runs t₀ bytes (record { tally = t; ran = record { code = 11; place = place; answered = count } }) m₀ m′ out₀ out
     run-stuck z = go (reading (drop place bytes)) refl
@@ -198,10 +190,10 @@ module _ {m₀ bytes out₀ : List ℕ} {t₀ : Tally} {m out : List ℕ} {t : T
             (λ n. stuck n (p .state) t (length out - written) place (drop place bytes) (omega (arith, left)) r at))
 
         go : (y : Reading) → reading (drop place bytes) ≡ y → Runs t₀ bytes (record { tally = t; ran = record { code = 11; place = place; answered = count } }) m₀ m′ out₀ out
-        go (unread k) e = same (after-then refl (p .after) (let s : StepsTo (stepOn (p .state) t (unread k)) (counted t x) m m′ = rw e at step in s .after))
-        go (opening u o) e = same (after-then refl (p .after) (let s : StepsTo (stepOn (p .state) t (opening u o)) (counted t x) m m′ = rw e at step in s .after))
+        go (unread k) e = same (after-then refl (p .after) (let s : StepsOn (stepOn (p .state) t (unread k)) t x m m′ = rw e at step in s .after))
+        go (opening u o) e = same (after-then refl (p .after) (let s : StepsOn (stepOn (p .state) t (opening u o)) t x m m′ = rw e at step in s .after))
         go (order u o) e =
-            let s : StepsTo (stepOn (p .state) t (order u o)) (counted t x) m m′ = rw e at step in
+            let s : StepsOn (stepOn (p .state) t (order u o)) t x m m′ = rw e at step in
             let k : 8 ≤ u = rw e at (kind (drop place bytes)) in
             absurd (omega (arith, s .used))
 
@@ -259,7 +251,7 @@ module _ {m₀ bytes out₀ : List ℕ} {t₀ : Tally} {m out : List ℕ} {t : T
         idle : (stepOn (p .state) t (reading (drop place bytes))) .used ≡ 0 → Next
         idle e = absurd (nz (step .used ∙ e))
 
-        turned : (u : ℕ) (o : Order) → StepsTo (stepOn (p .state) t (order u o)) (counted t x) m m′ → reading (drop place bytes) ≡ order u o → Next
+        turned : (u : ℕ) (o : Order) → StepsOn (stepOn (p .state) t (order u o)) t x m m′ → reading (drop place bytes) ≡ order u o → Next
         turned u o s e =
             let k : 8 ≤ u = rw e at (kind (drop place bytes)) in
             let i : u ≤ length (drop place bytes) = rw e at (inside (drop place bytes)) in
@@ -271,7 +263,7 @@ module _ {m₀ bytes out₀ : List ℕ} {t₀ : Tally} {m out : List ℕ} {t : T
         go (unread k) e = idle (rw e)
         go (opening u o) e = idle (rw e)
         go (order u o) e =
-            let s : StepsTo (stepOn (p .state) t (order u o)) (counted t x) m m′ = rw e at step in
+            let s : StepsOn (stepOn (p .state) t (order u o)) t x m m′ = rw e at step in
             turned u o s e
 
 -- a step on the part of the records from the place on

@@ -1,4 +1,4 @@
--- `calls::run::run`: the run so far is a beginning of the run. Assumes nothing.
+-- `running::run`: the run so far is a beginning of the run. Assumes nothing.
 use mathlib.Core.Path.{_≡_, refl, _∙_}
 use mathlib.Core.Logic.{inl, inr}
 use Prim.Native.Nat.{ℕ, _-_, _≤_}
@@ -7,10 +7,10 @@ use borrow.Author.Needs.{needs}
 use borrow.Author.Tests.{not-true, not-false}
 use lib.ListN.{length}
 use Rattle.numbers.specs.Case.{case-le}
-use Rattle.calls.proofs.Deciding.{yes-whole, no-whole}
-use Rattle.calls.proofs.Running.{runs-as, Along, start, whole-now, run-done, run-full, run-stuck, turn, from-part}
-use Rattle.calls.proofs.run.run.Statement.{statement}
-use Rattle.calls.proofs.run.run.Tie as tie
+use Rattle.running.proofs.Deciding.{yes-whole, no-whole}
+use Rattle.running.proofs.Running.{runs-as, Along, start, whole-now, run-done, run-full, run-stuck, turn, from-part}
+use Rattle.running.proofs.run.Statement.{statement}
+use Rattle.running.proofs.run.Tie as tie
 
 nonzero : (n : ℕ) → (n ≡ 0 → ⊥) → 1 ≤ n
 nonzero n h = elim (case-le 1 n) [ inl y ↦ y .0 | inr y ↦ absurd (h (omega arith)) ]

@@ -1,6 +1,5 @@
--- What the check's answer says, and what the header tells.
-use mathlib.Core.Path.{_≡_, ap, _∙_}
-use mathlib.Core.Bool.{Bool, true, false}
+-- What the header of a whole link tells.
+use mathlib.Core.Path.{_≡_, _∙_}
 use mathlib.Core.List.{List}
 use Prim.Native.Nat.{ℕ, _+_, _*_, _≤_}
 use native.Mathlib.Omega.{arith}
@@ -9,16 +8,7 @@ use Rattle.numbers.specs.Words.{word}
 use Rattle.shape.specs.Tree.{size}
 use Rattle.state.specs.State.{State}
 use Rattle.memory.specs.Holds.{Holds, Whole}
-use Rattle.settled.specs.Says.{Says}
 use Rattle.calls.specs.declared.tell.Told.{Told}
-
-pub yes-whole : (m : List ℕ) (b : Bool) → Says (Whole m) b → b ≡ true → Whole m
-yes-whole m true s e = s
-yes-whole m false s e = absurd (let z : _≡_ {A = ℕ} 0 1 = cc (ap (λ (c : Bool). Rattle.numbers.specs.Case.pick {A = ℕ} c 1 0) e) in omega arith)
-
-pub no-whole : (m : List ℕ) (b : Bool) → Says (Whole m) b → b ≡ false → Whole m → ⊥
-no-whole m false s e = s
-no-whole m true s e = absurd (let z : _≡_ {A = ℕ} 0 1 = cc (ap (λ (c : Bool). Rattle.numbers.specs.Case.pick {A = ℕ} c 1 0) e) in omega arith)
 
 pub header-long : (m : List ℕ) → Whole m → 8 * 6 + 8 ≤ length m
 header-long m w = omega (arith, w .2 .long)
