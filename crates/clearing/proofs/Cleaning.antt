@@ -15,7 +15,7 @@ use Rattle.shape.specs.JoinLaws.{clear-none, freed-none, clear-sides, freed-sid
 use Rattle.node.specs.declared.Node.{Node}
 use Rattle.node.specs.Layout.{Within, highest, nodeAt, Saved}
 use Rattle.node.specs.Rep.{Rep, Stands}
-use Rattle.node.proofs.Reps.{seen, within}
+use Rattle.node.proofs.Reps.{stands-nodes}
 use Rattle.node.proofs.Frames.{node-kept}
 use Rattle.turning.specs.Turns.{Two, Arranged}
 use Rattle.state.specs.Sound.{among, below}
@@ -24,7 +24,7 @@ use Rattle.memory.specs.Holds.{spareNode}
 use Rattle.memory.proofs.Parts.{below-in, below-most, past-then}
 use Rattle.clearing.specs.declared.Left.{Left}
 use Rattle.clearing.specs.Clears.{Ground, Site, LeftAt, Cleaned}
-use Rattle.clearing.proofs.Grounds.{stands-nodes, ground-here, ground-kept, give-pre, nodes-given, ground-given}
+use Rattle.clearing.proofs.Grounds.{ground-here, ground-kept, give-pre, nodes-given, ground-given}
 
 -- what is left stays where no node of it is written
 left-stays : (m m′ : List ℕ) (x : Left) (q : Rest) → length m′ ≡ length m → ((z : ℕ) → 1 ≤ weightOf (λ p k e. same z p) (same z) q → nodeAt m′ z ≡ nodeAt m z) → LeftAt m x q → LeftAt m′ x q

@@ -18,20 +18,6 @@ use Rattle.memory.specs.Holds.{Spares, spareNode, Past}
 use Rattle.memory.proofs.Parts.{below-in, below-most, below-out, node-store, spares-frame, past-none, past-then, past-store, past-kept}
 use Rattle.clearing.specs.Clears.{Ground}
 
--- a tree whose nodes are as they were
-pub rep-nodes : (t : Tree) (m m′ : List ℕ) → length m′ ≡ length m → ((z : ℕ) → 1 ≤ uses z t → nodeAt m′ z ≡ nodeAt m z) → Rep m t → Rep m′ t
-unfolding Rep
-rep-nodes (leaf p k e) m m′ q f r = (omega (arith, r .0), f p (omega (arith, same-self p)) ∙ r .1)
-rep-nodes (node p a b) m m′ q f r = (
-  omega (arith, r .0),
-  f p (omega (arith, same-self p)) ∙ r .1,
-  rep-nodes a m m′ q (λ z u. f z (omega arith)) (r .2),
-  rep-nodes b m m′ q (λ z u. f z (omega arith)) (r .3),
-)
-
-pub stands-nodes : {m m′ : List ℕ} {p : ℕ} {t : Tree} → length m′ ≡ length m → ((z : ℕ) → 1 ≤ uses z t → nodeAt m′ z ≡ nodeAt m z) → Stands m p t → Stands m′ p t
-stands-nodes {m} {m′} {p} {t} q f s = record { rep = rep-nodes t m m′ q f (s .rep); at = s .at }
-
 module _ (m0 m : List ℕ) (n : ℕ) (h ps : List ℕ) (G : Ground m0 m n h ps) where
   -- from here on
   pub ground-here : Ground m m n h ps

@@ -5,20 +5,16 @@ use mathlib.Core.List.{List, _++_}
 use Prim.Native.Nat.{ℕ, _+_, _*_, _-_, _/_, _≤_, _<_}
 use native.Mathlib.Decide.{ℕ-discrete}
 use native.Mathlib.Omega.{arith}
-use lib.Dec.{leb}
 use lib.ListN.{length, getD, set, length-set, length-append}
 use lib.Seq.{getD-set-same, getD-set-other}
-use Rattle.numbers.specs.Case.{pick}
 use Rattle.numbers.specs.Words.{word, store}
-use Rattle.rule.specs.Kept.{least}
-use Rattle.shape.specs.Tree.{Tree, size, weight}
+use Rattle.shape.specs.Tree.{Tree, size}
 use Rattle.shape.specs.TreeLaws.{size-some}
-use Rattle.shape.specs.PlaceLaws.{size-weight}
 use Rattle.shape.specs.Clear.{rest, clear, freed}
 use Rattle.node.proofs.Reps.{within}
 use Rattle.node.specs.Rep.{Stands}
 use Rattle.state.specs.State.{State, first, places, with-tree}
-use Rattle.state.specs.Act.{toDrop, leftOf, cleared}
+use Rattle.state.specs.Act.{cleared}
 use Rattle.state.specs.ClearLaws.{Cleared, among-append, left-some}
 use Rattle.memory.specs.Header.{header, Heads}
 use Rattle.memory.specs.Holds.{After}
@@ -26,7 +22,7 @@ use Rattle.memory.specs.Part.{Part}
 use Rattle.memory.proofs.Parts.{part-put, opened, closed}
 use Rattle.memory.proofs.Shortening.{sole}
 use Rattle.clearing.specs.declared.Left.{Left}
-use Rattle.clearing.specs.Clears.{Ground, Site, LeftAt, Cleaned, Clearable, Cleans, Lasting, Some, Clears}
+use Rattle.clearing.specs.Clears.{Site, LeftAt, Cleaned, Clearable, Cleans, Lasting}
 
 module _ (bound : ℕ) (m : List ℕ) (s : State) (L : Lasting bound m s) where
   abbrev n : ℕ
@@ -87,8 +83,8 @@ module _ (bound : ℕ) (m : List ℕ) (s : State) (L : Lasting bound m s) where
       abbrev ps : List ℕ
       ps = freed bound t ++ s .spares
 
-      at : Stands m1 (x .root) u
-      at = subst (LeftAt m1 x) (U .1) (C .left) .1
+      stands-u : Stands m1 (x .root) u
+      stands-u = subst (LeftAt m1 x) (U .1) (C .left) .1
 
       abbrev D : ℕ
       D = (x .spare - K) / 2
@@ -112,22 +108,16 @@ module _ (bound : ℕ) (m : List ℕ) (s : State) (L : Lasting bound m s) where
         long = C .ground .long;
         wide = length-set (header s) 7 (first ps) ∙ P .wide;
         heads = heads-1;
-        rep = at .rep;
+        rep = stands-u .rep;
         spare = C .ground .spare;
         once = λ z. omega (arith, P .once z, U .2 .places z, among-append z (freed bound t) (s .spares));
         past = C .ground .past;
       }
 
-      pub dropped : (moment : ℕ) → bound ≡ least moment → D ≡ toDrop moment t
-      dropped moment e =
-          let z : size u + toDrop moment t ≡ size t = subst (λ b. size u + weight (λ p k e. pick (leb b e) 0 1) (λ q. 0) t ≡ size t) e (omega (arith, U .2 .lost (λ p k e. 1), size-weight u, size-weight t)) in
-          omega (arith, z, fewer)
-
-      pub closed-up : (moment : ℕ) → bound ≡ least moment → (m2 m3 : List ℕ) → m2 ≡ store m1 5 (x .root) → m3 ≡ store m2 6 (kept - D) → After m m3 (cleared s moment)
+      pub closed-up : (m2 m3 : List ℕ) → m2 ≡ store m1 5 (x .root) → m3 ≡ store m2 6 (kept - D) → (D + size ((cleared s bound) .tree) ≡ size t) × After m m3 (cleared s bound)
       unfolding cleared
-      closed-up moment e m2 m3 e2 e3 =
-          let P2 = part-put m m1 n _ u ps part-1 5 (x .root) (omega arith) (omega (arith, within at)) in
+      closed-up m2 m3 e2 e3 =
+          let P2 = part-put m m1 n _ u ps part-1 5 (x .root) (omega arith) (omega (arith, within stands-u)) in
           let P3 = part-put m (store m1 5 (x .root)) n _ u ps P2 6 (kept - D) (omega arith) (omega (arith, counts)) in
           let sz : kept - D ≡ size u = omega (arith, fewer, words, ek) in
-          subst (λ b. After m m3 (with-tree s (leftOf t (clear b t)) (freed b t ++ s .spares))) e
-          (rw (U .1) (closed m m3 (with-tree s u ps) (L .link .holds .lines) (rw (e3, e2, at .at, ← sz) P3)))
+          rw (U .1) (fewer .1, closed m m3 (with-tree s u ps) (L .link .holds .lines) (rw (e3, e2, stands-u .at, ← sz) P3))

@@ -7,14 +7,13 @@ use mathlib.Core.List.{List, _++_}
 use Prim.Native.Nat.{ℕ, _+_, _*_, _≤_, _<_}
 use lib.ListN.{length, getD}
 use Rattle.numbers.specs.Words.{word}
-use Rattle.rule.specs.Kept.{least}
 use Rattle.shape.specs.Tree.{Tree, size, height, uses, In, Balanced}
 use Rattle.shape.specs.Clear.{Rest, gone, rest, clear, freed}
 use Rattle.node.specs.Layout.{headerWords, highest, nodeAt}
 use Rattle.node.specs.Rep.{Stands}
 use Rattle.state.specs.State.{State, first}
 use Rattle.state.specs.Sound.{among, below}
-use Rattle.state.specs.Act.{toDrop, cleared}
+use Rattle.state.specs.Act.{cleared}
 use Rattle.memory.specs.Holds.{Spares, Past, After}
 use Rattle.memory.specs.Steps.{Link}
 use Rattle.clearing.specs.declared.Left.{Left}
@@ -64,9 +63,9 @@ pub record Lasting (bound : ℕ) (m : List ℕ) (s : State) : Type 0 where
   pub inside : In place key end (s .tree)
   pub late : bound ≤ end
 
-abbrev pub Some : (bound : ℕ) → List ℕ → Type 0
-Some bound m = (s : State) × Lasting bound m s
+abbrev pub Lasts : (bound : ℕ) → List ℕ → Type 0
+Lasts bound m = (s : State) × Lasting bound m s
 
--- the voids that do not stay go, and how many
+-- the voids that end before the bound go, and n is how many
 abbrev pub Clears : (bound n : ℕ) → (m m′ : List ℕ) → Type 0
-Clears bound n m m′ = (s : State) (moment : ℕ) → bound ≡ least moment → Lasting bound m s → (n ≡ toDrop moment (s .tree)) × After m m′ (cleared s moment)
+Clears bound n m m′ = (s : State) → Lasting bound m s → (n + size ((cleared s bound) .tree) ≡ size (s .tree)) × After m m′ (cleared s bound)

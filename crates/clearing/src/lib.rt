@@ -1,7 +1,7 @@
 // Clearing a link: the voids that end before a bound go in one pass over the tree (shape's specs/Clear.antt).
 // A part that has none is not looked into; what is left of a node's two sides is joined by that node, or the node goes too.
 ghost use mathlib.Core.Path.{_≡_};
-ghost use Rattle.clearing.specs.Clears.{Clearable, Cleans, Some, Clears};
+ghost use Rattle.clearing.specs.Clears.{Clearable, Cleans, Lasts, Clears};
 use numbers::words::get;
 use numbers::words::put;
 
@@ -62,7 +62,7 @@ fn below(mem: &mut [u8], p: usize, bound: u64, spare: u64) -> Left
 
 // The voids of a link that end before the bound go. How many.
 pub fn clear(mem: &mut [u8], bound: u64) -> u64
-    requires { ⌜ Some bound (now mem) ⌝ }
+    requires { ⌜ Lasts bound (now mem) ⌝ }
     ensures { λ n. ⌜ Clears bound n (now (mem .entry)) (now (mem .exit)) ⌝ }
 {
     let kept = get(mem, memory::KEPT);

@@ -16,7 +16,7 @@ use Rattle.shape.specs.PlaceLaws.{same-self, same-other}
 use Rattle.node.specs.Layout.{headerWords, Within, base, nodeAt, placeOf, Kept, Saved}
 use Rattle.node.specs.Rep.{Rep}
 use Rattle.node.proofs.Frames.{word-kept, node-kept}
-use Rattle.node.proofs.Reps.{rep-frame}
+use Rattle.node.proofs.Reps.{rep-nodes, rep-frame}
 use Rattle.state.specs.State.{State, first, places}
 use Rattle.state.specs.Sound.{among, below}
 use Rattle.memory.specs.Header.{padded, header, Heads}
@@ -47,14 +47,7 @@ node-store m i v z h =
     rw (e (base z) (omega arith), e (base z + 1) (omega arith), e (base z + 2) (omega arith), e (base z + 3) (omega arith), e (base z + 4) (omega arith))
 
 rep-store : (t : Tree) (m : List ℕ) (i v : ℕ) → i < 26 → Rep m t → Rep (store m i v) t
-unfolding Rep
-rep-store (leaf p k e) m i v h r = (omega (arith, r .0, length-store m i v), node-store m i v p h ∙ r .1)
-rep-store (node p a b) m i v h r = (
-  omega (arith, r .0, length-store m i v),
-  node-store m i v p h ∙ r .1,
-  rep-store a m i v h (r .2),
-  rep-store b m i v h (r .3),
-)
+rep-store t m i v h r = rep-nodes t m (store m i v) (length-store m i v) (λ z u. node-store m i v z h) r
 
 -- the header with one word put
 pub heads-put : (m h : List ℕ) (i v : ℕ) → 208 ≤ length m → length h ≡ headerWords → i < 26 → v < 2 ^ 64 → Heads m h → Heads (store m i v) (set h i v)

@@ -4,6 +4,7 @@ use mathlib.Core.List.{List}
 use Prim.Native.Nat.{ℕ, zero, suc, _+_, _<_, _≤_, max}
 use native.Mathlib.Omega.{arith}
 use borrow.Author.Tests.{ne-eqb}
+use lib.ListN.{length}
 use Rattle.shape.specs.Tree.{Tree, leaf, node, place, height, same, uses}
 use Rattle.node.specs.declared.Node.{Node}
 use Rattle.node.specs.Layout.{Within, nodeAt, leafNode, Kept, Saved, Over, Mendable}
@@ -35,15 +36,22 @@ pub tall : {m : List ℕ} {p : ℕ} {t : Tree} → Stands m p t → nodeAt m p .
 tall s = ap heightOf (seen s)
 
 -- ---- what keeps a tree
-pub rep-frame : (t : Tree) (n : ℕ → ℕ) (m m′ : List ℕ) → Kept n m m′ → ((z : ℕ) → 1 ≤ uses z t → n z ≡ 0) → Rep m t → Rep m′ t
+pub rep-nodes : (t : Tree) (m m′ : List ℕ) → length m′ ≡ length m → ((z : ℕ) → 1 ≤ uses z t → nodeAt m′ z ≡ nodeAt m z) → Rep m t → Rep m′ t
 unfolding Rep
-rep-frame (leaf p k e) n m m′ f h r = (within-kept n m m′ f p (r .0), node-kept n m m′ f p (h p (omega (arith, same-self p))) ∙ r .1)
-rep-frame (node p a b) n m m′ f h r = (
-  within-kept n m m′ f p (r .0),
-  node-kept n m m′ f p (h p (omega (arith, same-self p))) ∙ r .1,
-  rep-frame a n m m′ f (λ z u. h z (omega arith)) (r .2),
-  rep-frame b n m m′ f (λ z u. h z (omega arith)) (r .3),
+rep-nodes (leaf p k e) m m′ q f r = (omega (arith, r .0), f p (omega (arith, same-self p)) ∙ r .1)
+rep-nodes (node p a b) m m′ q f r = (
+  omega (arith, r .0),
+  f p (omega (arith, same-self p)) ∙ r .1,
+  rep-nodes a m m′ q (λ z u. f z (omega arith)) (r .2),
+  rep-nodes b m m′ q (λ z u. f z (omega arith)) (r .3),
 )
+
+pub stands-nodes : {m m′ : List ℕ} {p : ℕ} {t : Tree} → length m′ ≡ length m → ((z : ℕ) → 1 ≤ uses z t → nodeAt m′ z ≡ nodeAt m z) → Stands m p t → Stands m′ p t
+stands-nodes {m} {m′} {p} {t} q f s = record { rep = rep-nodes t m m′ q f (s .rep); at = s .at }
+
+-- by the places that were written
+pub rep-frame : (t : Tree) (n : ℕ → ℕ) (m m′ : List ℕ) → Kept n m m′ → ((z : ℕ) → 1 ≤ uses z t → n z ≡ 0) → Rep m t → Rep m′ t
+rep-frame t n m m′ f h r = rep-nodes t m m′ (f .len) (λ z u. node-kept n m m′ f z (h z u)) r
 
 pub stands-frame : {n : ℕ → ℕ} {m m′ : List ℕ} {p : ℕ} {t : Tree} → Kept n m m′ → ((z : ℕ) → 1 ≤ uses z t → n z ≡ 0) → Stands m p t → Stands m′ p t
 stands-frame {n} {m} {m′} {p} {t} f h s = record { rep = rep-frame t n m m′ f h (s .rep); at = s .at }

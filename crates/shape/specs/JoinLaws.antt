@@ -12,53 +12,52 @@ use Rattle.shape.specs.Side.{near, far, over}
 use Rattle.shape.specs.SideLaws.{joined, joined-assoc, joined-swap, leaves-over, height-over, weight-over, all-over, over-all, over-even}
 use Rattle.shape.specs.Arrange.{balance}
 use Rattle.shape.specs.BalanceLaws.{balance-over}
+use Rattle.shape.specs.HangLaws.{hang-over, hang-side, weight-hang, height-hang, join-left, join-right}
 use Rattle.shape.specs.Clear.{hang, join, gone, rest, meet, clear, unused, freed}
 
--- t is w over x, on the side named, and y, which is no higher
-pub record Hung (left : Bool) (w : ℕ) (x y t : Tree) : Type 1 where
+-- t is w over x, on the side named, and y, which is no higher (weight and greatest height: HangLaws)
+pub record Hung (left : Bool) (x y t : Tree) : Type 1 where
   pub list : leaves t ≡ joined left (leaves x) (leaves y)
-  pub weigh : (f : (p k e : ℕ) → ℕ) (v : ℕ → ℕ) → weight f v t ≡ v w + weight f v x + weight f v y
   pub all : (P : (p k e : ℕ) → Type 0) → All P x → All P y → All P t
   pub even : Balanced t
   pub tall : height x ≤ height t
-  pub high : height t ≤ height x + 1
 
 module _ (left : Bool) (w : ℕ) where
   -- right under w
-  at-once : (x y : Tree) → Balanced x → Balanced y → height y ≤ height x → height x ≤ height y + 1 → Hung left w x y (over left w x y)
+  at-once : (x y : Tree) → Balanced x → Balanced y → height y ≤ height x → height x ≤ height y + 1 → Hung left x y (over left w x y)
   at-once x y X Y h i = record {
     list = leaves-over left w x y;
-    weigh = λ f v. weight-over left w x y f v;
     all = λ P c d. over-all left w x y P c d;
     even = over-even left w x y X Y i (omega arith);
     tall = omega (arith, height-over left w x y);
-    high = omega (arith, height-over left w x y);
   }
 
   -- below the node q, beside its inner child d
-  deeper : (q : ℕ) (c d y z : Tree) → Balanced c → height c ≤ height d + 1 → height d ≤ height c + 1
-      → Hung left w d y z → Hung left w (over left q c d) y (balance q (near left c z) (far left c z))
-  deeper q c d y z C h i Z =
-      let B = balance-over left q c z C (Z .even) (omega (arith, Z .tall)) (omega (arith, Z .high)) in
+  deeper : (q : ℕ) (c d y : Tree) → Balanced c → height c ≤ height d + 1 → height d ≤ height c + 1 → height y ≤ height d
+      → Hung left d y (hang left w d y) → Hung left (over left q c d) y (balance q (near left c (hang left w d y)) (far left c (hang left w d y)))
+  deeper q c d y C h i j Z =
+      let z = hang left w d y in
+      let B = balance-over left q c z C (Z .even) (omega (arith, Z .tall)) (omega (arith, height-hang left w d y)) in
       record {
         list = rw (B .list, Z .list, leaves-over left q c d) (sym (joined-assoc left (leaves c) (leaves d) (leaves y)));
-        weigh = λ f v. omega (arith, B .weigh f v, Z .weigh f v, weight-over left q c d f v);
         all = λ P a b. let A = all-over left q c d P a in B .all P (A .0) (Z .all P (A .1) b);
         even = B .even;
         tall = omega (arith, B .tall, Z .tall, height-over left q c d);
-        high = omega (arith, B .high, Z .high, height-over left q c d);
       }
 
-pub hang-ok : (left : Bool) (w : ℕ) (x y : Tree) → Balanced x → Balanced y → height y ≤ height x → Hung left w x y (hang left w x y)
-unfolding hang
-hang-ok left w (leaf p k e) y X Y h = at-once left w (leaf p k e) y X Y h (omega arith)
+pub hang-ok : (left : Bool) (w : ℕ) (x y : Tree) → Balanced x → Balanced y → height y ≤ height x → Hung left x y (hang left w x y)
+hang-ok left w (leaf p k e) y X Y h = rw (hang-over left w (leaf p k e) y (omega arith)) (at-once left w (leaf p k e) y X Y h (omega arith))
 hang-ok true w (node q c d) y X Y h = elim (case-le (height (node q c d)) (height y + 1)) [
-  | inl z ↦ rw (z .1) (at-once true w (node q c d) y X Y h (z .0))
-  | inr z ↦ rw (z .1) (deeper true w q c d y (hang true w d y) (X .0) (X .2) (X .3) (hang-ok true w d y (X .1) Y (omega (arith, z .0, X .2, X .3))))
+  | inl z ↦ rw (hang-over true w (node q c d) y (z .0)) (at-once true w (node q c d) y X Y h (z .0))
+  | inr z ↦
+      let l : height y ≤ height d = omega (arith, z .0, X .2, X .3) in
+      rw (hang-side true w q c d y (z .0)) (deeper true w q c d y (X .0) (X .2) (X .3) l (hang-ok true w d y (X .1) Y l))
 ]
 hang-ok false w (node q c d) y X Y h = elim (case-le (height (node q c d)) (height y + 1)) [
-  | inl z ↦ rw (z .1) (at-once false w (node q c d) y X Y h (z .0))
-  | inr z ↦ rw (z .1) (deeper false w q d c y (hang false w c y) (X .1) (X .3) (X .2) (hang-ok false w c y (X .0) Y (omega (arith, z .0, X .2, X .3))))
+  | inl z ↦ rw (hang-over false w (node q c d) y (z .0)) (at-once false w (node q c d) y X Y h (z .0))
+  | inr z ↦
+      let l : height y ≤ height c = omega (arith, z .0, X .2, X .3) in
+      rw (hang-side false w q c d y (z .0)) (deeper false w q d c y (X .1) (X .3) (X .2) l (hang-ok false w c y (X .0) Y l))
 ]
 
 -- t is l and r joined by w
@@ -70,14 +69,19 @@ pub record Met (w : ℕ) (l r t : Tree) : Type 1 where
   pub high : height t ≤ max (height l) (height r) + 1
 
 pub join-ok : (w : ℕ) (l r : Tree) → Balanced l → Balanced r → Met w l r (join w l r)
-unfolding join
 join-ok w l r L R = elim (case-le (height r) (height l)) [
   | inl z ↦
       let H = hang-ok true w l r L R (z .0) in
-      rw (z .1) (record { list = H .list; weigh = H .weigh; all = H .all; even = H .even; high = omega (arith, H .high) })
+      rw (join-left w l r (z .0)) (record { list = H .list; weigh = λ f v. weight-hang f v true w l r; all = H .all; even = H .even; high = height-hang true w l r })
   | inr z ↦
       let H = hang-ok false w r l R L (omega (arith, z .0)) in
-      rw (z .1) (record { list = H .list; weigh = λ f v. omega (arith, H .weigh f v); all = λ P a b. H .all P b a; even = H .even; high = omega (arith, H .high) })
+      rw (join-right w l r (z .0)) (record {
+        list = H .list;
+        weigh = λ f v. omega (arith, weight-hang f v false w r l);
+        all = λ P a b. H .all P b a;
+        even = H .even;
+        high = omega (arith, height-hang false w r l);
+      })
 ]
 
 -- ---- a tree with no leaf to clear stays as it is

@@ -86,12 +86,12 @@ abbrev pub leftOf : Tree → Rest → Tree
 leftOf t gone = t
 leftOf t (rest u) = u
 
--- the places that come free are the first spare ones
-unfoldable pub cleared : State → (moment : ℕ) → State
-cleared s moment = with-tree s (leftOf (s .tree) (clear (least moment) (s .tree))) (freed (least moment) (s .tree) ++ s .spares)
+-- without the voids that end before the bound; the places that come free are the first spare ones
+unfoldable pub cleared : State → (bound : ℕ) → State
+cleared s b = with-tree s (leftOf (s .tree) (clear b (s .tree))) (freed b (s .tree) ++ s .spares)
 
 abbrev pub sweepAs : (code : ℕ) → State → (moment : ℕ) → Outcome
-sweepAs zero s moment = record { reply = swept (toDrop moment (s .tree)); count = 0; after = with-floor (cleared s moment) moment }
+sweepAs zero s moment = record { reply = swept (toDrop moment (s .tree)); count = 0; after = with-floor (cleared s (least moment)) moment }
 sweepAs (suc x) s moment = refusal s (suc x)
 
 abbrev pub act : State → Order → Outcome

@@ -100,7 +100,7 @@ module _ (F₀ floor : ℕ) (g : Settings) (H : ℕ → ℕ → ℕ) (s : State)
           let D = clear-dropped moment F₀ (least (s .floor)) (g .channels) H o early s K in
           let P = D .placed (L .placed) in
           record {
-            kept = raised moment F₀ (least (s .floor)) (g .channels) H o early ((cleared s moment) .tree) (D .kept) (D .none);
+            kept = raised moment F₀ (least (s .floor)) (g .channels) H o early ((cleared s (least moment)) .tree) (D .kept) (D .none);
             settings = D .settings ∙ L .settings;
             level = refl;
             floor = a;

@@ -2,6 +2,7 @@
 use mathlib.Core.Path.{_≡_, refl}
 use mathlib.Core.Logic.{inl, inr}
 use Prim.Native.Nat.{ℕ, zero, suc}
+use Rattle.rule.specs.Kept.{least}
 use Rattle.rule.specs.Fit.{hold, free}
 use Rattle.rule.specs.Starts.{starts}
 use Rattle.rule.specs.Key.{startOf}
@@ -26,9 +27,9 @@ carried-settings s h (booked c i r f) nowhere = refl
 carried-settings s h (swept d) o = refl
 carried-settings s h (refused x) o = refl
 
-pub cleared-settings : (s : State) (moment : ℕ) → (cleared s moment) .settings ≡ s .settings
+pub cleared-settings : (s : State) (b : ℕ) → (cleared s b) .settings ≡ s .settings
 unfolding cleared
-cleared-settings s moment = refl
+cleared-settings s b = refl
 
 pub act-settings : (s : State) (o : Order) → (act s o) .after .settings ≡ s .settings
 act-settings s (booking r l m) = go (bookingCode (s .settings) (s .floor) r l m)
@@ -42,5 +43,5 @@ act-settings s (booking r l m) = go (bookingCode (s .settings) (s .floor) r l m)
 act-settings s (sweep moment) = go (sweepCode (s .settings) (s .floor) moment)
   where
     go : (code : ℕ) → (sweepAs code s moment) .after .settings ≡ s .settings
-    go zero = cleared-settings s moment
+    go zero = cleared-settings s (least moment)
     go (suc c) = refl

@@ -65,7 +65,7 @@ module _ (moment F₀ G C : ℕ) (H : ℕ → ℕ → ℕ) (f : least moment ≤
     edges = L .all (λ p k e. Bordered F₀ G C H k e) (all-map (λ p k e z n. z) t (K .edges));
   }
 
-  pub clear-dropped : (s : State) → Kept F₀ b G C H (s .tree) → Dropped moment F₀ G C H s (cleared s moment)
+  pub clear-dropped : (s : State) → Kept F₀ b G C H (s .tree) → Dropped moment F₀ G C H s (cleared s b)
   unfolding cleared
   clear-dropped s K =
       let t = s .tree in

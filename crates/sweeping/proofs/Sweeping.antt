@@ -1,7 +1,7 @@
 -- A sweep of a whole link, way out by way out: refused by its code, or cleared and the floor set.
-use mathlib.Core.Path.{_≡_, refl, sym, subst, _∙_}
+use mathlib.Core.Path.{_≡_, refl, sym, ap, subst, _∙_}
 use mathlib.Core.List.{List, _++_}
-use Prim.Native.Nat.{ℕ, zero, suc, _≤_}
+use Prim.Native.Nat.{ℕ, zero, suc, _+_, _≤_}
 use native.Mathlib.Omega.{arith}
 use Rattle.numbers.specs.Words.{word}
 use Rattle.rule.specs.Settings.{Settings, longest}
@@ -12,20 +12,20 @@ use Rattle.rule.specs.Order.{sweep}
 use Rattle.rule.specs.Codes.{sweepCode}
 use Rattle.rule.specs.Answer.{seven, numbersOf}
 use Rattle.rule.specs.declared.answer.Answer.{Answer}
-use Rattle.shape.specs.Tree.{In, low, Balanced}
+use Rattle.shape.specs.Tree.{In, low, size, Balanced}
+use Rattle.shape.specs.PlaceLaws.{size-weight}
 use Rattle.shape.specs.TreeLaws.{all-in, low-ends}
 use Rattle.shape.specs.Clear.{clear, freed}
 use Rattle.state.specs.State.{State, with-tree, with-floor}
 use Rattle.state.specs.Sound.{Sound}
-use Rattle.state.specs.Act.{leftOf, cleared, Outcome, refusal, sweepAs, act}
+use Rattle.state.specs.Act.{leftOf, toDrop, cleared, Outcome, refusal, sweepAs, act}
 use Rattle.state.specs.Places.{Placed}
 use Rattle.state.specs.ClearLaws.{left-some}
 use Rattle.state.specs.SweepLaws.{placed-left}
 use Rattle.memory.specs.Holds.{Holds, Whole, After}
 use Rattle.memory.specs.Steps.{Link, Some, Refloors}
 use Rattle.memory.proofs.Whole.{whole-link, floor-is, after-none, after-then}
-use Rattle.clearing.specs.Clears as Clearable
-use Rattle.clearing.specs.Clears.{Lasting, Clears}
+use Rattle.clearing.specs.Clears.{Lasting, Lasts, Clears}
 use Rattle.sweeping.specs.Swept.{Sweeps}
 
 pub short-leap : (m : List ℕ) → Whole m → (x : ℕ) → x ≡ word m 3 → x ≤ longest
@@ -41,6 +41,14 @@ kept-link : {m : List ℕ} (b : ℕ) (s : State) → Link m s → (p k e : ℕ) 
 kept-link b s L p k e i h =
     let u = left-some b (s .tree) p k e (L .even) i h in
     rw (u .1) (placed-left s b (u .0) (u .2) (L .placed), u .2 .even .0)
+
+-- how many went
+dropped-many : {m : List ℕ} (moment : ℕ) (s : State) → Link m s → (p k e : ℕ) → In p k e (s .tree) → least moment ≤ e
+    → toDrop moment (s .tree) + size ((cleared s (least moment)) .tree) ≡ size (s .tree)
+unfolding cleared
+dropped-many moment s L p k e i h =
+    let u = left-some (least moment) (s .tree) p k e (L .even) i h in
+    rw (u .1) (omega (arith, u .2 .lost (λ p k e. 1), size-weight (u .0), size-weight (s .tree)))
 
 -- an outcome in memory
 sweeps : (moment : ℕ) (a : Answer) (m m′ : List ℕ) (s : State) (o : Outcome) → act s (sweep moment) ≡ o
@@ -66,26 +74,25 @@ module _ (m : List ℕ) (moment floor leap code : ℕ) (ef : floor ≡ word m 4)
         let o = W .openEnds _ (all-in _ (s .tree) (W .lawful) (x .place) (x .key) (low (s .tree)) (x .inside) .channel) in
         record { link = whole-link W H; place = o .place; key = o .key; end = openEnd; inside = o .inside; late = omega (arith, eb, least-most moment, late) }
 
-    pub clearable : Whole m → Clearable.Some bound m
+    pub clearable : Whole m → Lasts bound m
     clearable w = (w .0, lasting (w .0) (w .1) (w .2))
 
     module _ (n : ℕ) (m1 : List ℕ) (C : Clears bound n m m1) where
-      cleared-link : (s : State) → Sound s → Holds m s → Link m1 (cleared s moment)
+      cleared-link : (s : State) → Sound s → Holds m s → Link m1 (cleared s bound)
       unfolding cleared
       cleared-link s W H =
           let L = lasting s W H in
-          let K = kept-link (least moment) s (L .link) (L .place) (L .key) (L .end) (L .inside) (subst (λ b. b ≤ L .end) eb (L .late)) in
-          record { placed = K .0; even = K .1; holds = C s moment eb L .1 .holds }
+          let K = kept-link bound s (L .link) (L .place) (L .key) (L .end) (L .inside) (L .late) in
+          record { placed = K .0; even = K .1; holds = C s L .1 .holds }
 
       pub some : Whole m → Some m1
-      some w = (cleared (w .0) moment, cleared-link (w .0) (w .1) (w .2))
+      some w = (cleared (w .0) bound, cleared-link (w .0) (w .1) (w .2))
 
       pub done : (m2 : List ℕ) → Refloors moment m1 m2 → (s : State) → Sound s → Holds m s
           → Sweeps moment (record { code = 0; channel = 0; line = 0; start = 0; finish = 0; count = 0; dropped = n }) m m2 s
       done m2 f s W H =
-          let D = C s moment eb (lasting s W H) in
-          let A : After m m2 (with-floor (cleared s moment) moment) = after-then (cleared-floor s) (D .1) (f (cleared s moment) (cleared-link s W H)) in
-          sweeps moment _ m m2 s (sweepAs 0 s moment) (rw (code-is s H ∙ z)) (rw (D .0)) A
-        where
-          cleared-floor : (s : State) → (cleared s moment) .settings ≡ (with-floor (cleared s moment) moment) .settings
-          cleared-floor s = refl
+          let L = lasting s W H in
+          let D = C s L in
+          let A : After m m2 (with-floor (cleared s bound) moment) = after-then refl (D .1) (f (cleared s bound) (cleared-link s W H)) in
+          let e : n ≡ toDrop moment (s .tree) = omega (arith, D .0, dropped-many moment s (L .link) (L .place) (L .key) (L .end) (L .inside) (subst (λ b. b ≤ L .end) eb (L .late)), ap (λ b. size ((cleared s b) .tree)) eb) in
+          sweeps moment _ m m2 s (sweepAs 0 s moment) (rw (code-is s H ∙ z)) (rw e) (rw eb at A)

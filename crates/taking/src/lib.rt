@@ -1,5 +1,5 @@
 // Taking a void: it is replaced by its pieces, if they are kept; or refused under 8, if it leaves two and the room is full.
-// Which void is taken, and from when, is the crate booking's.
+// Which void is taken, and from when, is the crate seeking's.
 ghost use mathlib.Core.Path.{_≡_};
 ghost use Prim.Native.Nat.{_≤_};
 ghost use Rattle.rule.specs.Moments.{lastMoment};

@@ -3,7 +3,7 @@ use mathlib.Core.Path.{refl}
 use native.Mathlib.Omega.{arith}
 use borrow.Author.Needs.{needs}
 use Rattle.numbers.specs.Words.{word}
-use Rattle.clearing.proofs.Sweep.{counts, clearable, in-range, dropped, closed-up}
+use Rattle.clearing.proofs.Sweep.{counts, clearable, in-range, closed-up}
 use Rattle.clearing.proofs.clear.Statement.{statement}
 use Rattle.clearing.proofs.clear.Tie as tie
 
@@ -44,7 +44,7 @@ same-length : tie.Need-same-length
 same-length c = search needs
 
 returns : tie.Need-returns
-returns c = λ s moment e L. (dropped (c .before .before .before .before .before .before .before .before .before .before .before .before .before .before .before .before .before .before .before .before .args .bound) _ s L _ _ _ (c .before .before .before .before .before .before .before .before .before .before .before .before .before .before .before .before .before .get .ensures) (c .before .before .before .before .before .before .before .before .before .before .before .before .before .before .before .get2 .ensures) (c .before .before .before .before .before .before .before .before .before .before .before .before .before .get3 .ensures) _ _ (c .before .before .before .before .before .before .before .before .before .before .before .below .ensures) moment e, closed-up (c .before .before .before .before .before .before .before .before .before .before .before .before .before .before .before .before .before .before .before .before .args .bound) _ s L _ _ _ (c .before .before .before .before .before .before .before .before .before .before .before .before .before .before .before .before .before .get .ensures) (c .before .before .before .before .before .before .before .before .before .before .before .before .before .before .before .get2 .ensures) (c .before .before .before .before .before .before .before .before .before .before .before .before .before .get3 .ensures) _ _ (c .before .before .before .before .before .before .before .before .before .before .before .below .ensures) moment e _ _ (c .before .before .before .before .before .before .put .ensures) (c .before .before .put2 .ensures))
+returns c = λ s L. closed-up (c .before .before .before .before .before .before .before .before .before .before .before .before .before .before .before .before .before .before .before .before .args .bound) _ s L _ _ _ (c .before .before .before .before .before .before .before .before .before .before .before .before .before .before .before .before .before .get .ensures) (c .before .before .before .before .before .before .before .before .before .before .before .before .before .before .before .get2 .ensures) (c .before .before .before .before .before .before .before .before .before .before .before .before .before .get3 .ensures) _ _ (c .before .before .before .before .before .before .before .before .before .before .before .below .ensures) _ _ (c .before .before .before .before .before .before .put .ensures) (c .before .before .put2 .ensures)
 
 pub clear-spec : {M : Type 1} → statement M
 clear-spec =
