@@ -19,8 +19,8 @@ pub record Evened (left : Bool) (w : ℕ) (x y t : Tree) : Type 1 where
   pub first : lo t ≡ lo (over left w x y)
   pub most : top t ≡ max (top x) (top y)
   pub least : low t ≡ min (low x) (low y)
-  pub weigh : (f : (p k e : ℕ) → ℕ) (v : ℕ → ℕ) → weight f v t ≡ v w + weight f v x + weight f v y
-  pub all : (P : (p k e : ℕ) → Type 0) → All P x → All P y → All P t
+  pub weigh : (f : (k e : ℕ) → ℕ) (v : ℕ → ℕ) → weight f v t ≡ v w + weight f v x + weight f v y
+  pub all : (P : (k e : ℕ) → Type 0) → All P x → All P y → All P t
   pub ord : (a b : ℕ) → Ord a b (over left w x y) → Ord a b t
   pub even : Balanced t
   -- one more than the higher of the two; where that is higher by 2, perhaps just as high
@@ -35,8 +35,8 @@ record Alike (left : Bool) (w : ℕ) (x y t : Tree) : Type 1 where
   list : leaves t ≡ joined left (leaves x) (leaves y)
   most : top t ≡ max (top x) (top y)
   least : low t ≡ min (low x) (low y)
-  weigh : (f : (p k e : ℕ) → ℕ) (v : ℕ → ℕ) → weight f v t ≡ v w + weight f v x + weight f v y
-  all : (P : (p k e : ℕ) → Type 0) → All P x → All P y → All P t
+  weigh : (f : (k e : ℕ) → ℕ) (v : ℕ → ℕ) → weight f v t ≡ v w + weight f v x + weight f v y
+  all : (P : (k e : ℕ) → Type 0) → All P x → All P y → All P t
 
 once-alike : (left : Bool) (w x : ℕ) (a i b : Tree) → Alike left w (over left x a i) b (over left x a (over left w i b))
 once-alike left w x a i b = record {
@@ -92,7 +92,7 @@ twice-over left w x y a c d b A C D B h i j k =
 twice-ok : (left : Bool) (w x : ℕ) (a i b : Tree) → Balanced a → Balanced i → Balanced b
     → height i ≡ height b + 1 → height a ≡ height b → Evened left w (over left x a i) b (twice left w x a i b)
 unfolding twice
-twice-ok left w x a (leaf p k e) b A I B h j = absurd (omega arith)
+twice-ok left w x a (leaf k e) b A I B h j = absurd (omega arith)
 twice-ok true w x a (node y c d) b A I B h j = twice-over true w x y a c d b A (I .0) (I .1) B (I .2) (I .3) (omega arith) j
 twice-ok false w x a (node y c d) b A I B h j = twice-over false w x y a d c b A (I .1) (I .0) B (I .3) (I .2) (omega arith) j
 
@@ -111,7 +111,7 @@ turn-over left w x a i b A I B h j k = elim (case-le (height i) (height a)) [
 pub turn-ok : (left : Bool) (w : ℕ) (high low : Tree) → Balanced high → Balanced low → height high ≡ height low + 2
     → Evened left w high low (turn left w high low)
 unfolding turn
-turn-ok left w (leaf p k e) b H B h = absurd (omega arith)
+turn-ok left w (leaf k e) b H B h = absurd (omega arith)
 turn-ok true w (node x c d) b H B h = turn-over true w x c d b (H .0) (H .1) B (H .2) (H .3) (omega arith)
 turn-ok false w (node x c d) b H B h = turn-over false w x d c b (H .1) (H .0) B (H .3) (H .2) (omega arith)
 

@@ -22,11 +22,11 @@ module _ (k x : ℕ) (l r : Tree) (s : Bool) (es : s ≡ ltb k (lo r)) where
     | inr y ↦ let h : s ≡ true = es ∙ lt-ltb k (lo r) (y .0) in rw (y .1, h)
   ]
 
-  pub insert-side : (e p q : ℕ) → insert k e p q (node x l r) ≡ balance x (near s (insert k e p q (near s l r)) (far s l r)) (far s (insert k e p q (near s l r)) (far s l r))
+  pub insert-side : (e p q : ℕ) → insert k e q (node x l r) ≡ balance x (near s (insert k e q (near s l r)) (far s l r)) (far s (insert k e q (near s l r)) (far s l r))
   unfolding insert
   insert-side e p q = leads _ _ ∙ go s
     where
-      go : (c : Bool) → near c (balance x (insert k e p q l) r) (balance x l (insert k e p q r)) ≡ balance x (near c (insert k e p q (near c l r)) (far c l r)) (far c (insert k e p q (near c l r)) (far c l r))
+      go : (c : Bool) → near c (balance x (insert k e q l) r) (balance x l (insert k e q r)) ≡ balance x (near c (insert k e q (near c l r)) (far c l r)) (far c (insert k e q (near c l r)) (far c l r))
       go true = refl
       go false = refl
 
@@ -63,47 +63,47 @@ module _ (k x : ℕ) (l r : Tree) (s : Bool) (es : s ≡ ltb k (lo r)) where
       go false = refl
 
 -- the side at a leaf
-pub insert-leaf : (k e p q x j f : ℕ) (s : Bool) → s ≡ ltb k j → insert k e p q (leaf x j f) ≡ over s q (leaf p k e) (leaf x j f)
+pub insert-leaf : (k e p q x j f : ℕ) (s : Bool) → s ≡ ltb k j → insert k e q (leaf j f) ≡ over s q (leaf k e) (leaf j f)
 unfolding insert
-insert-leaf k e p q x j f s es = elim (case-le j k) [
+insert-leaf e p q x j f s es = elim (case-le j k) [
   | inl y ↦ let h : s ≡ false = es ∙ le-ltb k j (y .0) in rw (y .1, h)
   | inr y ↦ let h : s ≡ true = es ∙ lt-ltb k j (y .0) in rw (y .1, h)
 ]
 
 -- ---- what the changes add up to
-module _ (u : (p k e : ℕ) → ℕ) (v : ℕ → ℕ) (k e p q : ℕ) where
-  pub weight-insert : (t : Tree) → weight u v (insert k e p q t) ≡ weight u v t + u p k e + v q
+module _ (u : (k e : ℕ) → ℕ) (v : ℕ → ℕ) (k e q : ℕ) where
+  pub weight-insert : (t : Tree) → weight u v (insert k e q t) ≡ weight u v t + u k e + v q
   unfolding insert
-  weight-insert (leaf x j f) = elim (case-le j k) [ inl y ↦ rw (y .1) (omega arith) | inr y ↦ rw (y .1) (omega arith) ]
+  weight-insert (leaf j f) = elim (case-le j k) [ inl y ↦ rw (y .1) (omega arith) | inr y ↦ rw (y .1) (omega arith) ]
   weight-insert (node x l r) = elim (case-le (lo r) k) [
-    | inl y ↦ rw (y .1) (omega (arith, weight-balance u v x l (insert k e p q r), weight-insert r))
-    | inr y ↦ rw (y .1) (omega (arith, weight-balance u v x (insert k e p q l) r, weight-insert l))
+    | inl y ↦ rw (y .1) (omega (arith, weight-balance u v x l (insert k e q r), weight-insert r))
+    | inr y ↦ rw (y .1) (omega (arith, weight-balance u v x (insert k e q l) r, weight-insert l))
   ]
 
-pub height-insert : (k e p q : ℕ) (t : Tree) → height (insert k e p q t) ≤ height t + 1
+pub height-insert : (k e q : ℕ) (t : Tree) → height (insert k e q t) ≤ height t + 1
 unfolding insert
-height-insert k e p q (leaf x j f) = elim (case-le j k) [ inl y ↦ rw (y .1) (omega arith) | inr y ↦ rw (y .1) (omega arith) ]
-height-insert k e p q (node x l r) = elim (case-le (lo r) k) [
-  | inl y ↦ rw (y .1) (omega (arith, height-balance x l (insert k e p q r), height-insert k e p q r))
-  | inr y ↦ rw (y .1) (omega (arith, height-balance x (insert k e p q l) r, height-insert k e p q l))
+height-insert k e q (leaf j f) = elim (case-le j k) [ inl y ↦ rw (y .1) (omega arith) | inr y ↦ rw (y .1) (omega arith) ]
+height-insert k e q (node x l r) = elim (case-le (lo r) k) [
+  | inl y ↦ rw (y .1) (omega (arith, height-balance x l (insert k e q r), height-insert k e q r))
+  | inr y ↦ rw (y .1) (omega (arith, height-balance x (insert k e q l) r, height-insert k e q l))
 ]
 
 -- a weight by places alone
 module _ (u v : ℕ → ℕ) (k : ℕ) where
   abbrev by : Tree → ℕ
-  by = weight (λ p j e. u p) v
+  by = weight (λ j e. u p) v
 
   less-weight : (s : Bool) (x : ℕ) (t y : Tree) → (1 ≤ height t → by (remove k t) + u (leafOf k t) + v (above k t) ≡ by t)
       → by (less s x t (remove k t) y) + u (leafOf k t) + v (orAbove x t (above k t)) ≡ v x + by t + by y
   unfolding less leafOf orAbove
-  less-weight s x (leaf p j e) y h = omega arith
+  less-weight s x (leaf j e) y h = omega arith
   less-weight s x (node p a b) y h =
       let g : by (remove k (node p a b)) + u (leafOf k (node p a b)) + v (above k (node p a b)) ≡ by (node p a b) = h (omega arith) in
-      omega (arith, weight-balance-on (λ p j e. u p) v s x (remove k (node p a b)) y)
+      omega (arith, weight-balance-on (λ j e. u p) v s x (remove k (node p a b)) y)
 
   pub weight-remove : (t : Tree) → 1 ≤ height t → by (remove k t) + u (leafOf k t) + v (above k t) ≡ by t
   unfolding remove leafOf above
-  weight-remove (leaf p j e) h = absurd (omega arith)
+  weight-remove (leaf j e) h = absurd (omega arith)
   weight-remove (node x l r) h = elim (case-le (lo r) k) [
     | inl y ↦ rw (y .1) (omega (arith, less-weight false x r l (weight-remove r)))
     | inr y ↦ rw (y .1) (omega (arith, less-weight true x l r (weight-remove l)))
@@ -111,17 +111,17 @@ module _ (u v : ℕ → ℕ) (k : ℕ) where
 
   pub weight-set : (f : ℕ) (t : Tree) → by (setEnd k f t) ≡ by t
   unfolding setEnd
-  weight-set f (leaf p j e) = refl
+  weight-set f (leaf j e) = refl
   weight-set f (node x l r) = elim (case-le (lo r) k) [ inl y ↦ rw (y .1) (omega (arith, weight-set f r)) | inr y ↦ rw (y .1) (omega (arith, weight-set f l)) ]
 
 less-height : (k : ℕ) (s : Bool) (x : ℕ) (t y : Tree) → height (remove k t) ≤ height t → height (less s x t (remove k t) y) ≤ max (height t) (height y) + 1
 unfolding less
-less-height k s x (leaf p j e) y h = omega arith
+less-height k s x (leaf j e) y h = omega arith
 less-height k s x (node p a b) y h = omega (arith, height-balance-on s x (remove k (node p a b)) y)
 
 pub height-remove : (k : ℕ) (t : Tree) → height (remove k t) ≤ height t
 unfolding remove
-height-remove k (leaf p j e) = omega arith
+height-remove k (leaf j e) = omega arith
 height-remove k (node x l r) = elim (case-le (lo r) k) [
   | inl y ↦ rw (y .1) (omega (arith, less-height k false x r l (height-remove k r)))
   | inr y ↦ rw (y .1) (omega (arith, less-height k true x l r (height-remove k l)))
@@ -129,14 +129,14 @@ height-remove k (node x l r) = elim (case-le (lo r) k) [
 
 pub height-set : (k f : ℕ) (t : Tree) → height (setEnd k f t) ≡ height t
 unfolding setEnd
-height-set k f (leaf p j e) = refl
+height-set k f (leaf j e) = refl
 height-set k f (node x l r) = elim (case-le (lo r) k) [ inl y ↦ rw (y .1) (omega (arith, height-set k f r)) | inr y ↦ rw (y .1) (omega (arith, height-set k f l)) ]
 
 -- ---- the leaf that the key leads to, and what is above it
 -- its place is used, and is no inner node's
 pub leaf-uses : (z k : ℕ) (t : Tree) → inners z t + same z (leafOf k t) ≤ uses z t
 unfolding leafOf
-leaf-uses z k (leaf p j e) = omega arith
+leaf-uses z k (leaf j e) = omega arith
 leaf-uses z k (node x l r) = elim (case-le (lo r) k) [
   | inl y ↦ rw (y .1) (omega (arith, leaf-uses z k r, inners-uses z l))
   | inr y ↦ rw (y .1) (omega (arith, leaf-uses z k l, inners-uses z r))
@@ -145,27 +145,27 @@ leaf-uses z k (node x l r) = elim (case-le (lo r) k) [
 -- a child that is a leaf, and one that is not
 pub leaf-of-leaf : (k : ℕ) (t : Tree) → height t ≡ 0 → leafOf k t ≡ place t
 unfolding leafOf
-leaf-of-leaf k (leaf p j e) h = refl
+leaf-of-leaf k (leaf j e) h = refl
 leaf-of-leaf k (node p a b) h = absurd (omega arith)
 
 pub above-leaf : (x y : ℕ) (t : Tree) → height t ≡ 0 → orAbove x t y ≡ x
 unfolding orAbove
-above-leaf x y (leaf p j e) h = refl
+above-leaf x y (leaf j e) h = refl
 above-leaf x y (node p a b) h = absurd (omega arith)
 
 pub above-node : (x y : ℕ) (t : Tree) → 1 ≤ height t → orAbove x t y ≡ y
 unfolding orAbove
-above-node x y (leaf p j e) h = absurd (omega arith)
+above-node x y (leaf j e) h = absurd (omega arith)
 above-node x y (node p a b) h = refl
 
 pub less-leaf : (s : Bool) (x : ℕ) (t now y : Tree) → height t ≡ 0 → less s x t now y ≡ y
 unfolding less
-less-leaf s x (leaf p j e) now y h = refl
+less-leaf s x (leaf j e) now y h = refl
 less-leaf s x (node p a b) now y h = absurd (omega arith)
 
 pub less-node : (s : Bool) (x : ℕ) (t now y : Tree) → 1 ≤ height t → less s x t now y ≡ balance x (near s now y) (far s now y)
 unfolding less
-less-node s x (leaf p j e) now y h = absurd (omega arith)
+less-node s x (leaf j e) now y h = absurd (omega arith)
 less-node s x (node p a b) now y h = refl
 
 -- two free places, different from each other, beside a tree that uses no place twice

@@ -11,7 +11,7 @@ use Rattle.shape.specs.Arrange.{balance}
 
 -- ---- w over a higher tree, on the side named, and a lower one: as far down the higher one's inner edge as their heights ask
 unfoldable pub hang : Bool → (w : ℕ) → (high low : Tree) → Tree
-hang left w (leaf p k e) b = over left w (leaf p k e) b
+hang left w (leaf k e) b = over left w (leaf k e) b
 hang true w (node x c d) b = pick (leb (height (node x c d)) (height b + 1)) (node w (node x c d) b) (balance x c (hang true w d b))
 hang false w (node x c d) b = pick (leb (height (node x c d)) (height b + 1)) (node w b (node x c d)) (balance x (hang false w c b) d)
 
@@ -31,7 +31,7 @@ meet x (rest a) gone = rest a
 meet x (rest a) (rest b) = rest (join x a b)
 
 unfoldable pub clear : (bound : ℕ) → Tree → Rest
-clear b (leaf p k e) = pick (leb b e) (rest (leaf p k e)) gone
+clear b (leaf k e) = pick (leb b e) (rest (leaf k e)) gone
 clear b (node x l r) = pick (leb b (low (node x l r))) (rest (node x l r)) (meet x (clear b l) (clear b r))
 
 -- ---- the places that come free, the last one first: left before right, then the node itself unless it joins
@@ -41,5 +41,5 @@ unused x (rest a) gone = x ∷ []
 unused x (rest a) (rest b) = []
 
 unfoldable pub freed : (bound : ℕ) → Tree → List ℕ
-freed b (leaf p k e) = pick (leb b e) [] (p ∷ [])
+freed b (leaf k e) = []
 freed b (node x l r) = pick (leb b (low (node x l r))) [] (unused x (clear b l) (clear b r) ++ (freed b r ++ freed b l))

@@ -17,8 +17,8 @@ use Rattle.shape.specs.Clear.{hang, join}
 -- ---- the two cases of hanging: w over the two trees here, or the inner child hung anew
 pub hang-over : (s : Bool) (w : ℕ) (a b : Tree) → height a ≤ height b + 1 → hang s w a b ≡ over s w a b
 unfolding hang
-hang-over true w (leaf p k e) b h = refl
-hang-over false w (leaf p k e) b h = refl
+hang-over true w (leaf k e) b h = refl
+hang-over false w (leaf k e) b h = refl
 hang-over true w (node x c d) b h = rw (le-leb (height (node x c d)) (height b + 1) h)
 hang-over false w (node x c d) b h = rw (le-leb (height (node x c d)) (height b + 1) h)
 
@@ -29,9 +29,9 @@ hang-side true w x c d b h = rw (lt-leb (height (node x c d)) (height b + 1) h)
 hang-side false w x c d b h = rw (lt-leb (height (node x c d)) (height b + 1) h)
 
 -- ---- what hanging comes to
-module _ (u : (p k e : ℕ) → ℕ) (v : ℕ → ℕ) where
+module _ (u : (k e : ℕ) → ℕ) (v : ℕ → ℕ) where
   pub weight-hang : (s : Bool) (w : ℕ) (a b : Tree) → weight u v (hang s w a b) ≡ v w + weight u v a + weight u v b
-  weight-hang s w (leaf p k e) b = rw (hang-over s w (leaf p k e) b (omega arith)) (weight-over s w (leaf p k e) b u v)
+  weight-hang s w (leaf k e) b = rw (hang-over s w (leaf k e) b (omega arith)) (weight-over s w (leaf k e) b u v)
   weight-hang true w (node x c d) b = elim (case-le (height (node x c d)) (height b + 1)) [
     | inl y ↦ rw (hang-over true w (node x c d) b (y .0))
     | inr y ↦ rw (hang-side true w x c d b (y .0)) (omega (arith, weight-balance u v x c (hang true w d b), weight-hang true w d b))
@@ -42,7 +42,7 @@ module _ (u : (p k e : ℕ) → ℕ) (v : ℕ → ℕ) where
   ]
 
 pub height-hang : (s : Bool) (w : ℕ) (a b : Tree) → height (hang s w a b) ≤ max (height a) (height b) + 1
-height-hang s w (leaf p k e) b = rw (hang-over s w (leaf p k e) b (omega arith)) (omega (arith, height-over s w (leaf p k e) b))
+height-hang s w (leaf k e) b = rw (hang-over s w (leaf k e) b (omega arith)) (omega (arith, height-over s w (leaf k e) b))
 height-hang true w (node x c d) b = elim (case-le (height (node x c d)) (height b + 1)) [
   | inl y ↦ rw (hang-over true w (node x c d) b (y .0)) (omega arith)
   | inr y ↦ rw (hang-side true w x c d b (y .0)) (omega (arith, height-balance x c (hang true w d b), height-hang true w d b))

@@ -11,7 +11,7 @@ use Rattle.rule.specs.Height.{Allowed}
 use Rattle.shape.specs.Tree.{Tree, leaf, node, height, size, Balanced}
 
 pub leaves-least : (t : Tree) → Balanced t → 2 ^ ((height t + 1) / 2) ≤ size t
-leaves-least (leaf p k e) b = omega arith
+leaves-least (leaf k e) b = omega arith
 leaves-least (node p l r) b =
     let m = max (height l) (height r) in
     let e : (m + 1 + 1) / 2 ≡ suc (m / 2) = omega arith in

@@ -18,7 +18,7 @@ use Rattle.shape.specs.Clear.{hang, join, gone, rest, meet, clear, unuse
 -- t is w over x, on the side named, and y, which is no higher (weight and greatest height: HangLaws)
 pub record Hung (left : Bool) (x y t : Tree) : Type 1 where
   pub list : leaves t ≡ joined left (leaves x) (leaves y)
-  pub all : (P : (p k e : ℕ) → Type 0) → All P x → All P y → All P t
+  pub all : (P : (k e : ℕ) → Type 0) → All P x → All P y → All P t
   pub even : Balanced t
   pub tall : height x ≤ height t
 
@@ -46,7 +46,7 @@ module _ (left : Bool) (w : ℕ) where
       }
 
 pub hang-ok : (left : Bool) (w : ℕ) (x y : Tree) → Balanced x → Balanced y → height y ≤ height x → Hung left x y (hang left w x y)
-hang-ok left w (leaf p k e) y X Y h = rw (hang-over left w (leaf p k e) y (omega arith)) (at-once left w (leaf p k e) y X Y h (omega arith))
+hang-ok left w (leaf k e) y X Y h = rw (hang-over left w (leaf k e) y (omega arith)) (at-once left w (leaf k e) y X Y h (omega arith))
 hang-ok true w (node q c d) y X Y h = elim (case-le (height (node q c d)) (height y + 1)) [
   | inl z ↦ rw (hang-over true w (node q c d) y (z .0)) (at-once true w (node q c d) y X Y h (z .0))
   | inr z ↦
@@ -63,8 +63,8 @@ hang-ok false w (node q c d) y X Y h = elim (case-le (height (node q c d)) (heig
 -- t is l and r joined by w
 pub record Met (w : ℕ) (l r t : Tree) : Type 1 where
   pub list : leaves t ≡ leaves l ++ leaves r
-  pub weigh : (f : (p k e : ℕ) → ℕ) (v : ℕ → ℕ) → weight f v t ≡ v w + weight f v l + weight f v r
-  pub all : (P : (p k e : ℕ) → Type 0) → All P l → All P r → All P t
+  pub weigh : (f : (k e : ℕ) → ℕ) (v : ℕ → ℕ) → weight f v t ≡ v w + weight f v l + weight f v r
+  pub all : (P : (k e : ℕ) → Type 0) → All P l → All P r → All P t
   pub even : Balanced t
   pub high : height t ≤ max (height l) (height r) + 1
 
@@ -87,12 +87,12 @@ join-ok w l r L R = elim (case-le (height r) (height l)) [
 -- ---- a tree with no leaf to clear stays as it is
 pub clear-none : (b : ℕ) (t : Tree) → b ≤ low t → clear b t ≡ rest t
 unfolding clear
-clear-none b (leaf p k e) h = elim (case-le b e) [ inl z ↦ rw (z .1) | inr z ↦ absurd (omega arith) ]
+clear-none b (leaf k e) h = elim (case-le b e) [ inl z ↦ rw (z .1) | inr z ↦ absurd (omega arith) ]
 clear-none b (node x l r) h = elim (case-le b (low (node x l r))) [ inl z ↦ rw (z .1) | inr z ↦ absurd (omega arith) ]
 
 pub freed-none : (b : ℕ) (t : Tree) → b ≤ low t → freed b t ≡ []
 unfolding freed
-freed-none b (leaf p k e) h = elim (case-le b e) [ inl z ↦ rw (z .1) | inr z ↦ absurd (omega arith) ]
+freed-none b (leaf k e) h = elim (case-le b e) [ inl z ↦ rw (z .1) | inr z ↦ absurd (omega arith) ]
 freed-none b (node x l r) h = elim (case-le b (low (node x l r))) [ inl z ↦ rw (z .1) | inr z ↦ absurd (omega arith) ]
 
 -- else a node's sides are cleared
@@ -104,10 +104,10 @@ pub freed-sides : (b x : ℕ) (l r : Tree) → low (node x l r) < b → freed b 
 unfolding freed
 freed-sides b x l r h = elim (case-le b (low (node x l r))) [ inl z ↦ absurd (omega arith) | inr z ↦ rw (z .1) ]
 
-pub clear-leaf : (b p k e : ℕ) → e < b → clear b (leaf p k e) ≡ gone
+pub clear-leaf : (b k e : ℕ) → e < b → clear b (leaf k e) ≡ gone
 unfolding clear
-clear-leaf b p k e h = elim (case-le b e) [ inl z ↦ absurd (omega arith) | inr z ↦ rw (z .1) ]
+clear-leaf p k e h = elim (case-le b e) [ inl z ↦ absurd (omega arith) | inr z ↦ rw (z .1) ]
 
-pub freed-leaf : (b p k e : ℕ) → e < b → freed b (leaf p k e) ≡ p ∷ []
+pub freed-leaf : (b k e : ℕ) → e < b → freed b (leaf k e) ≡ p ∷ []
 unfolding freed
-freed-leaf b p k e h = elim (case-le b e) [ inl z ↦ absurd (omega arith) | inr z ↦ rw (z .1) ]
+freed-leaf p k e h = elim (case-le b e) [ inl z ↦ absurd (omega arith) | inr z ↦ rw (z .1) ]

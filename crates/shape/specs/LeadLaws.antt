@@ -13,7 +13,7 @@ use Rattle.shape.specs.Arrange.{leafOf, orAbove, above}
 pub record Leads (left : Bool) (k x : ℕ) (t s : Tree) : Type 0 where
   pub spot : leafOf k (over left x t s) ≡ leafOf k t
   pub knot : above k (over left x t s) ≡ orAbove x t (above k t)
-  pub beside : All (λ p j e. j ≢ k) s
+  pub beside : All (λ j e. j ≢ k) s
 
 module _ (a b k x : ℕ) (l r : Tree) (o : Ord a b (node x l r)) where
   pub leads-right : (lo r ≤ k) × (leb (lo r) k ≡ true) → Leads false k x r l

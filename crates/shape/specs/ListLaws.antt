@@ -17,12 +17,12 @@ abbrev pub put : Item → List Item → List Item
 put x [] = x ∷ []
 put x (y ∷ ys) = pick (leb (y .1) (x .1)) (y ∷ put x ys) (x ∷ y ∷ ys)
 
-pub put-past : (x : Item) (t : Tree) (ys : List Item) → All (λ p k e. k ≤ x .1) t → put x (leaves t ++ ys) ≡ leaves t ++ put x ys
-put-past x (leaf p k e) ys h = elim (case-le k (x .1)) [ inl y ↦ rw (y .1) | inr y ↦ absurd (omega arith) ]
+pub put-past : (x : Item) (t : Tree) (ys : List Item) → All (λ k e. k ≤ x .1) t → put x (leaves t ++ ys) ≡ leaves t ++ put x ys
+put-past x (leaf k e) ys h = elim (case-le k (x .1)) [ inl y ↦ rw (y .1) | inr y ↦ absurd (omega arith) ]
 put-past x (node q l r) ys h = rw (append-assoc (leaves l) (leaves r) ys, put-past x l _ (h .0), put-past x r ys (h .1), append-assoc)
 
 put-first : (x : Item) (t : Tree) (ys : List Item) → x .1 < lo t → put x (leaves t ++ ys) ≡ x ∷ leaves t ++ ys
-put-first x (leaf p k e) ys h = elim (case-le k (x .1)) [ inl y ↦ absurd (omega arith) | inr y ↦ rw (y .1) ]
+put-first x (leaf k e) ys h = elim (case-le k (x .1)) [ inl y ↦ absurd (omega arith) | inr y ↦ rw (y .1) ]
 put-first x (node q l r) ys h = rw append-assoc (put-first x l _ h)
 
 pub put-before : (x : Item) (ys : List Item) (t : Tree) → x .1 < lo t → put x (ys ++ leaves t) ≡ put x ys ++ leaves t
@@ -45,8 +45,8 @@ lacks-append : (k : ℕ) (xs ys : List Item) → Lacks k xs → Lacks k ys → L
 lacks-append k [] ys h i = i
 lacks-append k (x ∷ xs) ys h i = (h .0, lacks-append k xs ys (h .1) i)
 
-lacks-all : (k : ℕ) (t : Tree) → All (λ p j e. j ≢ k) t → Lacks k (leaves t)
-lacks-all k (leaf p j e) h = (h, tt)
+lacks-all : (k : ℕ) (t : Tree) → All (λ j e. j ≢ k) t → Lacks k (leaves t)
+lacks-all k (leaf j e) h = (h, tt)
 lacks-all k (node q l r) h = lacks-append k (leaves l) (leaves r) (lacks-all k l (h .0)) (lacks-all k r (h .1))
 
 rising-put : (a b : ℕ) (x : Item) (xs : List Item) → Rising a b xs → a ≤ x .1 → x .1 < b → Lacks (x .1) xs → Rising a b (put x xs)
@@ -57,7 +57,7 @@ rising-put a b x (y ∷ ys) h i j n = elim (case-le (y .1) (x .1)) [
 ]
 
 pub ord-put : (a b : ℕ) (x : Item) (t u : Tree) → leaves u ≡ put x (leaves t) → Ord a b t
-    → a ≤ x .1 → x .1 < b → All (λ p j e. j ≢ x .1) t → Ord a b u
+    → a ≤ x .1 → x .1 < b → All (λ j e. j ≢ x .1) t → Ord a b u
 ord-put a b x t u q o i j n = rising-ord a b u (rw q (rising-put a b x (leaves t) (ord-rising a b t o) i j (lacks-all (x .1) t n)))
 
 -- ---- the item of the key k exchanged for those that g makes of it
@@ -76,11 +76,11 @@ abbrev pub renewed : (k f : ℕ) → List Item → List Item
 renewed k f xs = instead k (ending f) xs
 
 module _ (k : ℕ) (g : Item → List Item) where
-  instead-past : (t : Tree) (ys : List Item) → All (λ p j e. j ≢ k) t → instead k g (leaves t ++ ys) ≡ leaves t ++ instead k g ys
-  instead-past (leaf p j e) ys h = elim (case-eq j k) [ inl y ↦ absurd (h (y .0)) | inr y ↦ rw (y .1) ]
+  instead-past : (t : Tree) (ys : List Item) → All (λ j e. j ≢ k) t → instead k g (leaves t ++ ys) ≡ leaves t ++ instead k g ys
+  instead-past (leaf j e) ys h = elim (case-eq j k) [ inl y ↦ absurd (h (y .0)) | inr y ↦ rw (y .1) ]
   instead-past (node q l r) ys h = rw (append-assoc (leaves l) (leaves r) ys, instead-past l _ (h .0), instead-past r ys (h .1), append-assoc)
 
-  instead-before : (ys : List Item) (t : Tree) → All (λ p j e. j ≢ k) t → instead k g (ys ++ leaves t) ≡ instead k g ys ++ leaves t
+  instead-before : (ys : List Item) (t : Tree) → All (λ j e. j ≢ k) t → instead k g (ys ++ leaves t) ≡ instead k g ys ++ leaves t
   instead-before [] t h = rw (← append-nil (leaves t)) (instead-past t [] h)
   instead-before (y ∷ ys) t h = elim (case-eq (y .1) k) [
     | inl z ↦ rw (z .1) (sym (append-assoc (g y) ys (leaves t)))
@@ -88,7 +88,7 @@ module _ (k : ℕ) (g : Item → List Item) where
   ]
 
   -- the leaves beside it stay
-  pub instead-joined : (left : Bool) (xs : List Item) (t : Tree) → All (λ p j e. j ≢ k) t
+  pub instead-joined : (left : Bool) (xs : List Item) (t : Tree) → All (λ j e. j ≢ k) t
       → instead k g (joined left xs (leaves t)) ≡ joined left (instead k g xs) (leaves t)
   instead-joined true xs t h = instead-before xs t h
   instead-joined false xs t h = instead-past t xs h
@@ -105,5 +105,5 @@ module _ (k : ℕ) (g : Item → List Item) where
   ord-instead G a b t u q o = rising-ord a b u (rw q (rising-instead G a b (leaves t) (ord-rising a b t o)))
 
   -- a list of the one item
-  pub instead-one : (p e : ℕ) → instead k g ((p, k, e) ∷ []) ≡ g (p, k, e)
-  instead-one p e = elim (case-eq k k) [ inl y ↦ rw (y .1) (append-nil (g (p, k, e))) | inr y ↦ absurd (y .0 refl) ]
+  pub instead-one : (p e : ℕ) → instead k g ((k, e) ∷ []) ≡ g (k, e)
+  instead-one p e = elim (case-eq k k) [ inl y ↦ rw (y .1) (append-nil (g (k, e))) | inr y ↦ absurd (y .0 refl) ]

@@ -5,7 +5,7 @@ use mathlib.Core.Logic.{inl, inr, _≢_}
 use Prim.Native.Nat.{ℕ, _+_, _≤_}
 use native.Mathlib.Omega.{arith}
 use Rattle.numbers.specs.Case.{case-le, case-eq}
-use Rattle.shape.specs.Tree.{Tree, leaf, node, place, size, In, weight, same, uses, inners}
+use Rattle.shape.specs.Tree.{Tree, leaf, node, size, In, weight, same, uses}
 
 -- ---- the same place
 pub same-self : (x : ℕ) → same x x ≡ 1
@@ -26,58 +26,43 @@ pub same-none : (x y : ℕ) → same x y ≡ 0 → x ≢ y
 same-none x y h e = let g : same y y ≡ 0 = rw e at h in omega (arith, same-self y)
 
 -- ---- a leaf's weight in the whole
-pub weight-in : (w : (p k e : ℕ) → ℕ) (v : ℕ → ℕ) (t : Tree) (p k e : ℕ) → In p k e t → w p k e ≤ weight w v t
-weight-in w v (leaf p k e) p′ k′ e′ i = rw (i .0, i .1, i .2) (omega arith)
-weight-in w v (node q l r) p k e (inl i) = omega (arith, weight-in w v l p k e i)
-weight-in w v (node q l r) p k e (inr i) = omega (arith, weight-in w v r p k e i)
+pub weight-in : (w : (k e : ℕ) → ℕ) (v : ℕ → ℕ) (t : Tree) (k e : ℕ) → In k e t → w k e ≤ weight w v t
+weight-in w v (leaf k e) k′ e′ i = rw (i .0, i .1) (omega arith)
+weight-in w v (node q l r) k e (inl i) = omega (arith, weight-in w v l k e i)
+weight-in w v (node q l r) k e (inr i) = omega (arith, weight-in w v r k e i)
 
 -- a leaf that weighs something
-pub record Some (w : (p k e : ℕ) → ℕ) (t : Tree) : Type 0 where
-  pub place : ℕ
+pub record Some (w : (k e : ℕ) → ℕ) (t : Tree) : Type 0 where
   pub key : ℕ
   pub end : ℕ
-  pub inside : In place key end t
-  pub heavy : 1 ≤ w place key end
+  pub inside : In key end t
+  pub heavy : 1 ≤ w key end
 
-pub weight-some : (w : (p k e : ℕ) → ℕ) (t : Tree) → 1 ≤ weight w (λ q. 0) t → Some w t
-weight-some w (leaf p k e) h = record { place = p; key = k; end = e; inside = (refl, refl, refl); heavy = h }
+pub weight-some : (w : (k e : ℕ) → ℕ) (t : Tree) → 1 ≤ weight w (λ q. 0) t → Some w t
+weight-some w (leaf k e) h = record { key = k; end = e; inside = (refl, refl); heavy = h }
 weight-some w (node q l r) h = elim (case-le 1 (weight w (λ q. 0) l)) [
-  | inl y ↦ let x = weight-some w l (y .0) in record { place = x .place; key = x .key; end = x .end; inside = inl (x .inside); heavy = x .heavy }
-  | inr y ↦ let x = weight-some w r (omega arith) in record { place = x .place; key = x .key; end = x .end; inside = inr (x .inside); heavy = x .heavy }
+  | inl y ↦ let x = weight-some w l (y .0) in record { key = x .key; end = x .end; inside = inl (x .inside); heavy = x .heavy }
+  | inr y ↦ let x = weight-some w r (omega arith) in record { key = x .key; end = x .end; inside = inr (x .inside); heavy = x .heavy }
 ]
 
 -- weights that are the same leaf by leaf, and place by place, come to the same
-pub weight-same : (w w′ : (p k e : ℕ) → ℕ) (v v′ : ℕ → ℕ)
-    → ((p k e : ℕ) → w p k e ≡ w′ p k e) → ((q : ℕ) → v q ≡ v′ q) → (t : Tree) → weight w v t ≡ weight w′ v′ t
-weight-same w w′ v v′ f g (leaf p k e) = f p k e
+pub weight-same : (w w′ : (k e : ℕ) → ℕ) (v v′ : ℕ → ℕ)
+    → ((k e : ℕ) → w k e ≡ w′ k e) → ((q : ℕ) → v q ≡ v′ q) → (t : Tree) → weight w v t ≡ weight w′ v′ t
+weight-same w w′ v v′ f g (leaf k e) = f k e
 weight-same w w′ v v′ f g (node q l r) = omega (arith, g q, weight-same w w′ v v′ f g l, weight-same w w′ v v′ f g r)
 
 -- two weights added up leaf by leaf, and place by place, come to the sum of the two
-pub weight-add : (w w′ : (p k e : ℕ) → ℕ) (v v′ : ℕ → ℕ) (t : Tree)
-    → weight (λ p k e. w p k e + w′ p k e) (λ q. v q + v′ q) t ≡ weight w v t + weight w′ v′ t
-weight-add w w′ v v′ (leaf p k e) = refl
+pub weight-add : (w w′ : (k e : ℕ) → ℕ) (v v′ : ℕ → ℕ) (t : Tree)
+    → weight (λ k e. w k e + w′ k e) (λ q. v q + v′ q) t ≡ weight w v t + weight w′ v′ t
+weight-add w w′ v v′ (leaf k e) = refl
 weight-add w w′ v v′ (node q l r) = omega (arith, weight-add w w′ v v′ l, weight-add w w′ v v′ r)
 
 -- the size is a weight
-pub size-weight : (t : Tree) → size t ≡ weight (λ p k e. 1) (λ q. 0) t
-size-weight (leaf p k e) = refl
+pub size-weight : (t : Tree) → size t ≡ weight (λ k e. 1) (λ q. 0) t
+size-weight (leaf k e) = refl
 size-weight (node q l r) = omega (arith, size-weight l, size-weight r)
 
 -- ---- how often a place is used
-pub inners-uses : (x : ℕ) (t : Tree) → inners x t ≤ uses x t
-inners-uses x (leaf p k e) = omega arith
-inners-uses x (node q l r) = omega (arith, inners-uses x l, inners-uses x r)
-
--- a leaf's place is used, and so is the root's
-pub uses-in : (t : Tree) (p k e : ℕ) → In p k e t → 1 ≤ uses p t
-uses-in t p k e i = omega (arith, weight-in (λ q j f. same p q) (same p) t p k e i, same-self p)
-
-pub uses-place : (t : Tree) → 1 ≤ uses (place t) t
-uses-place (leaf p k e) = omega (arith, same-self p)
-uses-place (node q l r) = omega (arith, same-self q)
-
--- a place that an inner node has is no leaf's, where no place is used twice
-pub leaf-inner : (t : Tree) (p k e : ℕ) → In p k e t → uses p t ≤ 1 → inners p t ≡ 0
-leaf-inner (leaf q j f) p k e i h = refl
-leaf-inner (node q l r) p k e (inl i) h = omega (arith, leaf-inner l p k e i (omega arith), uses-in l p k e i, inners-uses p r)
-leaf-inner (node q l r) p k e (inr i) h = omega (arith, leaf-inner r p k e i (omega arith), uses-in r p k e i, inners-uses p l)
+-- no more often than in the whole
+pub uses-place : (q : ℕ) (l r : Tree) → 1 ≤ uses q (node q l r)
+uses-place q l r = omega (arith, same-self q)

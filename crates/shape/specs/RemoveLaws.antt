@@ -18,11 +18,11 @@ use Rattle.shape.specs.ListLaws.{cut, instead-joined, instead-one, ord-i
 use Rattle.shape.specs.LeadLaws.{Leads, leads-right, leads-left}
 
 -- u is t, ordered from a on and below b, without the leaf p k e and the inner place above it
-pub record Removed (a b p k e : ℕ) (t u : Tree) : Type 1 where
+pub record Removed (a b k e : ℕ) (t u : Tree) : Type 1 where
   pub list : leaves u ≡ cut k (leaves t)
-  pub weigh : (w : (p k e : ℕ) → ℕ) (v : ℕ → ℕ) → weight w v t ≡ w p k e + v (above k t) + weight w v u
+  pub weigh : (w : (k e : ℕ) → ℕ) (v : ℕ → ℕ) → weight w v t ≡ w k e + v (above k t) + weight w v u
   pub spot : leafOf k t ≡ p
-  pub all : (P : (p k e : ℕ) → Type 0) → All (λ p′ j f. j ≢ k → P p′ j f) t → All P u
+  pub all : (P : (k e : ℕ) → Type 0) → All (λ j f. j ≢ k → P j f) t → All P u
   pub ord : Ord a b u
   pub even : Balanced u
   pub tall : height t ≤ height u + 1
@@ -32,21 +32,21 @@ ord-cut : (a b k : ℕ) (t u : Tree) → leaves u ≡ cut k (leaves t) → Ord a
 ord-cut a b k t u q o = ord-instead k (λ x. []) (λ x. omega arith) a b t u q o
 
 -- at a node x over t and s, t on the side named, to which the key leads
-module _ (left : Bool) (a b p k e x : ℕ) where
+module _ (left : Bool) (a b k e x : ℕ) where
   -- a leaf goes, and x with it
-  leaf-gone : (q j f : ℕ) (s : Tree) → Ord a b (over left x (leaf q j f) s) → Balanced s → height s ≤ 1
-      → Leads left k x (leaf q j f) s → In p k e (leaf q j f) → Removed a b p k e (over left x (leaf q j f) s) s
+  leaf-gone : (q j f : ℕ) (s : Tree) → Ord a b (over left x (leaf j f) s) → Balanced s → height s ≤ 1
+      → Leads left k x (leaf j f) s → In k e (leaf j f) → Removed a b k e (over left x (leaf j f) s) s
   unfolding leafOf orAbove
   leaf-gone q j f s o S h d i =
-      let t = over left x (leaf q j f) s in
-      let one : cut k ((q, j, f) ∷ []) ≡ [] = rw (← i .1) (instead-one k (λ x. []) q f) in
+      let t = over left x (leaf j f) s in
+      let one : cut k ((j, f) ∷ []) ≡ [] = rw (← i .1) (instead-one k (λ x. []) q f) in
       let L : leaves s ≡ cut k (leaves t) =
-      rw (leaves-over, instead-joined k (λ x. []) left ((q, j, f) ∷ []) s (d .beside), one) (sym (joined-nil left (leaves s))) in
+      rw (leaves-over, instead-joined k (λ x. []) left ((j, f) ∷ []) s (d .beside), one) (sym (joined-nil left (leaves s))) in
       record {
         list = L;
         weigh = λ w v. rw (d .knot, weight-over, i .0, i .1, i .2) (omega arith);
         spot = d .spot ∙ sym (i .0);
-        all = λ P c. all-others P k s (d .beside) (all-over left x (leaf q j f) s _ c .1);
+        all = λ P c. all-others P k s (d .beside) (all-over left x (leaf j f) s _ c .1);
         ord = ord-cut a b k t s L o;
         even = S;
         tall = simp height-over (omega arith);
@@ -56,7 +56,7 @@ module _ (left : Bool) (a b p k e x : ℕ) where
   -- a tree is changed, and x stays
   below : (c d y : ℕ) (g h s u : Tree) → let t = node y g h in
       Ord a b (over left x t s) → Balanced s → height t ≤ height s + 1 → height s ≤ height t + 1
-      → Leads left k x t s → Removed c d p k e t u → Removed a b p k e (over left x t s) (balance x (near left u s) (far left u s))
+      → Leads left k x t s → Removed c d k e t u → Removed a b k e (over left x t s) (balance x (near left u s) (far left u s))
   unfolding orAbove
   below c d y g h s u o S m n D U =
       let t = node y g h in
@@ -75,23 +75,23 @@ module _ (left : Bool) (a b p k e x : ℕ) where
         high = omega (arith, height-over left x t s);
       }
 
-removed-side : (left : Bool) (a b c d p k e x : ℕ) (t s u : Tree) → Ord a b (over left x t s) → Balanced s → height t ≤ height s + 1 → height s ≤ height t + 1
-    → Leads left k x t s → In p k e t → (2 ≤ size t → Removed c d p k e t u) → Removed a b p k e (over left x t s) (less left x t u s)
+removed-side : (left : Bool) (a b c d k e x : ℕ) (t s u : Tree) → Ord a b (over left x t s) → Balanced s → height t ≤ height s + 1 → height s ≤ height t + 1
+    → Leads left k x t s → In k e t → (2 ≤ size t → Removed c d k e t u) → Removed a b k e (over left x t s) (less left x t u s)
 unfolding less
-removed-side left a b c d p k e x (leaf q j f) s u o S m n D i R = leaf-gone left a b p k e x q j f s o S (omega arith) D i
-removed-side left a b c d p k e x (node y g h) s u o S m n D i R =
-    below left a b p k e x c d y g h s u o S m n D (R (omega (arith, size-some g, size-some h)))
+removed-side left a b c d k e x (leaf j f) s u o S m n D i R = leaf-gone left a b k e x q j f s o S (omega arith) D i
+removed-side left a b c d k e x (node y g h) s u o S m n D i R =
+    below left a b k e x c d y g h s u o S m n D (R (omega (arith, size-some g, size-some h)))
 
-pub remove-ok : (a b p k e : ℕ) (t : Tree) → Ord a b t → Balanced t → In p k e t → 2 ≤ size t → Removed a b p k e t (remove k t)
+pub remove-ok : (a b k e : ℕ) (t : Tree) → Ord a b t → Balanced t → In k e t → 2 ≤ size t → Removed a b k e t (remove k t)
 unfolding remove
-remove-ok a b p k e (leaf q j f) o h i n = absurd (omega arith)
-remove-ok a b p k e (node x l r) o h i n = elim (case-le (lo r) k) [
-  | inl y ↦ let j = in-right a b p k e x l r o (y .0) i in
-      rw (y .1) (removed-side false a b (lo r) b p k e x r l (remove k r) o (h .0) (h .3) (h .2) (leads-right a b k x l r o y) j (remove-ok (lo r) b p k e r (o .1) (h .1) j))
-  | inr y ↦ let j = in-left a b p k e x l r o (y .0) i in
+remove-ok a b k e (leaf j f) o h i n = absurd (omega arith)
+remove-ok a b k e (node x l r) o h i n = elim (case-le (lo r) k) [
+  | inl y ↦ let j = in-right a b k e x l r o (y .0) i in
+      rw (y .1) (removed-side false a b (lo r) b k e x r l (remove k r) o (h .0) (h .3) (h .2) (leads-right a b k x l r o y) j (remove-ok (lo r) b k e r (o .1) (h .1) j))
+  | inr y ↦ let j = in-left a b k e x l r o (y .0) i in
       rw (y .1) (removed-side true a b a (lo r) p k e x l r (remove k l) o (h .1) (h .2) (h .3) (leads-left a b k x l r o y) j (remove-ok a (lo r) p k e l (o .0) (h .0) j))
 ]
 
 -- one leaf less
-pub removed-size : (a b p k e : ℕ) (t u : Tree) → Removed a b p k e t u → size t ≡ size u + 1
-removed-size a b p k e t u R = omega (arith, size-weight t, size-weight u, R .weigh (λ p k e. 1) (λ q. 0))
+pub removed-size : (a b k e : ℕ) (t u : Tree) → Removed a b k e t u → size t ≡ size u + 1
+removed-size a b k e t u R = omega (arith, size-weight t, size-weight u, R .weigh (λ k e. 1) (λ q. 0))

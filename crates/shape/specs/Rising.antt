@@ -21,7 +21,7 @@ rising-from a b c [] h i = omega arith
 rising-from a b c (x ∷ xs) h i = (omega arith, i .1)
 
 pub ord-rising : (a b : ℕ) (t : Tree) → Ord a b t → Rising a b (leaves t)
-ord-rising a b (leaf p k e) o = omega arith
+ord-rising a b (leaf k e) o = omega arith
 ord-rising a b (node m l r) o = rising-append a (lo r) b (leaves l) (leaves r) (ord-rising a (lo r) l (o .0)) (ord-rising (lo r) b r (o .1))
 
 -- ---- the least key is the first item's, or the default's where there is none
@@ -35,7 +35,7 @@ first-append d (x ∷ xs) ys = refl
 
 -- whatever the default
 pub lo-first : (d : ℕ) (t : Tree) → lo t ≡ first d (leaves t)
-lo-first d (leaf p k e) = refl
+lo-first d (leaf k e) = refl
 lo-first d (node m l r) = rw (first-append d (leaves l) (leaves r)) (lo-first (first d (leaves r)) l)
 
 pub lo-list : (t u : Tree) → leaves t ≡ leaves u → lo t ≡ lo u
@@ -53,7 +53,7 @@ rising-right a b [] (y ∷ ys) h = (omega arith, h .1)
 rising-right a b (x ∷ xs) ys h = rising-right (x .1 + 1) b xs ys (h .1)
 
 pub rising-ord : (a b : ℕ) (t : Tree) → Rising a b (leaves t) → Ord a b t
-rising-ord a b (leaf p k e) h = omega arith
+rising-ord a b (leaf k e) h = omega arith
 rising-ord a b (node m l r) h =
     rw (lo-first b r) (
       rising-ord a (first b (leaves r)) l (rising-left a b (leaves l) (leaves r) h),

@@ -20,16 +20,16 @@ more n h = record { place = h .place; key = h .key; end = h .end; count = n + h 
 
 -- the leaf with the greatest key that ends at f or later, where there is one
 abbrev pub last : (f : ℕ) → Tree → Hit
-last f (leaf p k e) = record { place = p; key = k; end = e; count = 0 }
+last f (leaf k e) = record { place = p; key = k; end = e; count = 0 }
 last f (node p l r) = pick (leb f (top r)) (more 1 (last f r)) (more 2 (last f l))
 
 -- what the right child's result and the left child's mark come to, after a right turn
 abbrev pub after : (mark : Bool) → Hit → Out → (visits : ℕ) → Result
-after b h (some p k e) n = record { out = some p k e; visits = n + 2 }
+after b h (some k e) n = record { out = some p k e; visits = n + 2 }
 after b h none n = pick b (record { out = some (h .place) (h .key) (h .end); visits = n + 2 + h .count }) (record { out = none; visits = n + 2 })
 
 abbrev pub find : (r f : ℕ) → Tree → Result
-find r f (leaf p k e) = record { out = fitting r f (leaf p k e); visits = 1 }
+find r f (leaf k e) = record { out = fitting r f (leaf k e); visits = 1 }
 find r f (node p x y) =
     pick (leb (startOf (lo y)) r)
     (after (leb f (top x)) (last f x) ((find r f y) .out) ((find r f y) .visits))

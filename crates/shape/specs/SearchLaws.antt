@@ -20,18 +20,18 @@ module _ (a b r f : ℕ) (t : Tree) (o : Ord a b t) where
   published-right u q = subst (λ (u : Out). Right r f t u) (sym (ap (λ (z : Result). z .out) (published-is f r t)) ∙ q) (find-right a b r f t o)
 
   -- at a leaf that fits, and none with a greater key does
-  pub search-some : (p k e : ℕ) → (published r f t) .out ≡ some p k e
-      → In p k e t × Fits (startOf k) e r f × ((p′ j g : ℕ) → In p′ j g t → Fits (startOf j) g r f → j ≤ k)
-  search-some p k e q = let R = published-right (some p k e) q in (R .0, R .1, all-in _ t (R .2))
+  pub search-some : (k e : ℕ) → (published r f t) .out ≡ some k e
+      → In k e t × Fits (startOf k) e r f × ((j g : ℕ) → In j g t → Fits (startOf j) g r f → j ≤ k)
+  search-some k e q = let R = published-right (some k e) q in (R .0, R .1, all-in _ t (R .2))
 
   -- or at none, and no leaf fits
-  pub search-none : (published r f t) .out ≡ none → (p k e : ℕ) → In p k e t → ¬ (Fits (startOf k) e r f)
+  pub search-none : (published r f t) .out ≡ none → (k e : ℕ) → In k e t → ¬ (Fits (startOf k) e r f)
   search-none q = all-in _ t (published-right none q)
 
   -- in the rule's words
-  pub search-taken : (p k e : ℕ) → (published r f t) .out ≡ some p k e → MinSV (VoidsIn t) r f (channelOf k) (startOf k) e
+  pub search-taken : (k e : ℕ) → (published r f t) .out ≡ some k e → MinSV (VoidsIn t) r f (channelOf k) (startOf k) e
   search-taken p k e q =
-      let R = search-some p k e q in
+      let R = search-some k e q in
       record {
         void = record { place = p; key = k; inside = R .0; channel = refl; start = refl };
         fits = R .1;

@@ -14,23 +14,23 @@ use Rattle.shape.specs.ListLaws.{ending, renewed, instead-joined, instea
 use Rattle.shape.specs.LeadLaws.{Leads, leads-right, leads-left}
 
 -- u is t, ordered from a on and below b, with the leaf p k e become p k f
-pub record Ended (a b p k e f : ℕ) (t u : Tree) : Type 1 where
+pub record Ended (a b k e f : ℕ) (t u : Tree) : Type 1 where
   pub list : leaves u ≡ renewed k f (leaves t)
   pub first : lo u ≡ lo t
   pub tall : height u ≡ height t
   pub many : size u ≡ size t
   pub root : place u ≡ place t
   pub spot : leafOf k t ≡ p
-  pub weigh : (w : (p k e : ℕ) → ℕ) (v : ℕ → ℕ) → weight w v u + w p k e ≡ weight w v t + w p k f
-  pub all : (P : (p k e : ℕ) → Type 0) → P p k f → All (λ p′ j g. j ≢ k → P p′ j g) t → All P u
+  pub weigh : (w : (k e : ℕ) → ℕ) (v : ℕ → ℕ) → weight w v u + w k e ≡ weight w v t + w k f
+  pub all : (P : (k e : ℕ) → Type 0) → P k f → All (λ j g. j ≢ k → P j g) t → All P u
   pub ord : Ord a b u
   pub even : Balanced u
 
 -- at a node x over t and s, t on the side named, to which the key leads
-below : (left : Bool) (a b c d p k e f x : ℕ) (t s u : Tree)
+below : (left : Bool) (a b c d k e f x : ℕ) (t s u : Tree)
     → Ord a b (over left x t s) → Balanced s → height t ≤ height s + 1 → height s ≤ height t + 1
-    → Leads left k x t s → Ended c d p k e f t u → Ended a b p k e f (over left x t s) (over left x u s)
-below left a b c d p k e f x t s u o S h i D U =
+    → Leads left k x t s → Ended c d k e f t u → Ended a b k e f (over left x t s) (over left x u s)
+below left a b c d k e f x t s u o S h i D U =
     let L : leaves (over left x u s) ≡ renewed k f (leaves (over left x t s)) =
     rw (leaves-over left x u s, leaves-over left x t s, U .list) (sym (instead-joined k (ending f) left (leaves t) s (D .beside))) in
     record {
@@ -46,9 +46,9 @@ below left a b c d p k e f x t s u o S h i D U =
       even = over-even left x u s (U .even) S (omega arith) (omega arith);
     }
 
-pub set-end-ok : (a b p k e f : ℕ) (t : Tree) → Ord a b t → Balanced t → In p k e t → Ended a b p k e f t (setEnd k f t)
+pub set-end-ok : (a b k e f : ℕ) (t : Tree) → Ord a b t → Balanced t → In k e t → Ended a b k e f t (setEnd k f t)
 unfolding setEnd leafOf
-set-end-ok a b p k e f (leaf q j g) o h i = record {
+set-end-ok a b k e f (leaf j g) o h i = record {
   list = rw (← i .1) (sym (instead-one k (ending f) q g));
   first = refl;
   tall = refl;
@@ -60,9 +60,9 @@ set-end-ok a b p k e f (leaf q j g) o h i = record {
   ord = o;
   even = tt;
 }
-set-end-ok a b p k e f (node x l r) o h i = elim (case-le (lo r) k) [
-  | inl y ↦ rw (y .1) (below false a b (lo r) b p k e f x r l (setEnd k f r) o (h .0) (h .3) (h .2) (leads-right a b k x l r o y)
-      (set-end-ok (lo r) b p k e f r (o .1) (h .1) (in-right a b p k e x l r o (y .0) i)))
+set-end-ok a b k e f (node x l r) o h i = elim (case-le (lo r) k) [
+  | inl y ↦ rw (y .1) (below false a b (lo r) b k e f x r l (setEnd k f r) o (h .0) (h .3) (h .2) (leads-right a b k x l r o y)
+      (set-end-ok (lo r) b k e f r (o .1) (h .1) (in-right a b k e x l r o (y .0) i)))
   | inr y ↦ rw (y .1) (below true a b a (lo r) p k e f x l r (setEnd k f l) o (h .1) (h .2) (h .3) (leads-left a b k x l r o y)
-      (set-end-ok a (lo r) p k e f l (o .0) (h .0) (in-left a b p k e x l r o (y .0) i)))
+      (set-end-ok a (lo r) p k e f l (o .0) (h .0) (in-left a b k e x l r o (y .0) i)))
 ]

@@ -52,21 +52,21 @@ module _ (left : Bool) (p : ℕ) (x y : Tree) where
   pub low-over : low (over left p x y) ≡ min (low x) (low y)
   low-over = elim left [ true ↦ refl | false ↦ omega arith ]
 
-  pub weight-over : (w : (p k e : ℕ) → ℕ) (v : ℕ → ℕ) → weight w v (over left p x y) ≡ v p + weight w v x + weight w v y
+  pub weight-over : (w : (k e : ℕ) → ℕ) (v : ℕ → ℕ) → weight w v (over left p x y) ≡ v p + weight w v x + weight w v y
   weight-over w v = elim left [ true ↦ refl | false ↦ omega arith ]
 
   -- what holds of all leaves, taken apart and put together
-  pub all-over : (P : (p k e : ℕ) → Type 0) → All P (over left p x y) → All P x × All P y
+  pub all-over : (P : (k e : ℕ) → Type 0) → All P (over left p x y) → All P x × All P y
   all-over P = elim left [ true ↦ λ h. h | false ↦ λ h. (h .1, h .0) ]
 
-  pub over-all : (P : (p k e : ℕ) → Type 0) → All P x → All P y → All P (over left p x y)
+  pub over-all : (P : (k e : ℕ) → Type 0) → All P x → All P y → All P (over left p x y)
   over-all P h i = elim left [ true ↦ (h, i) | false ↦ (i, h) ]
 
   pub over-even : Balanced x → Balanced y → height x ≤ height y + 1 → height y ≤ height x + 1 → Balanced (over left p x y)
   over-even h i u v = elim left [ true ↦ (h, i, u, v) | false ↦ (i, h, v, u) ]
 
 -- ---- the two children of a node, the one on the side named first
-module _ (u : (p k e : ℕ) → ℕ) (v : ℕ → ℕ) where
+module _ (u : (k e : ℕ) → ℕ) (v : ℕ → ℕ) where
   pub weight-sides : (s : Bool) (l r : Tree) → weight u v (near s l r) + weight u v (far s l r) ≡ weight u v l + weight u v r
   weight-sides true l r = refl
   weight-sides false l r = omega arith

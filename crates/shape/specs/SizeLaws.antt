@@ -8,15 +8,15 @@ use Rattle.shape.specs.PlaceLaws.{size-weight}
 use Rattle.shape.specs.Arrange.{insert, remove, setEnd}
 use Rattle.shape.specs.ChangeLaws.{weight-insert, weight-remove, weight-set}
 
-pub size-insert : (k e p q : ℕ) (t : Tree) → size (insert k e p q t) ≡ size t + 1
-size-insert k e p q t = omega (arith, size-weight t, size-weight (insert k e p q t), weight-insert (λ p k e. 1) (λ q. 0) k e p q t)
+pub size-insert : (k e q : ℕ) (t : Tree) → size (insert k e q t) ≡ size t + 1
+size-insert k e q t = omega (arith, size-weight t, size-weight (insert k e q t), weight-insert (λ k e. 1) (λ q. 0) k e p q t)
 
 pub size-set : (k f : ℕ) (t : Tree) → size (setEnd k f t) ≡ size t
 size-set k f t = omega (arith, size-weight t, size-weight (setEnd k f t), weight-set (λ p. 1) (λ q. 0) k f t)
 
 -- two leaves have a node above them
 pub tall-node : (t : Tree) → 2 ≤ size t → 1 ≤ height t
-tall-node (leaf p k e) h = absurd (omega arith)
+tall-node (leaf k e) h = absurd (omega arith)
 tall-node (node p l r) h = omega arith
 
 pub size-remove : (k : ℕ) (t : Tree) → 2 ≤ size t → size (remove k t) + 1 ≡ size t
@@ -25,5 +25,5 @@ size-remove k t h = omega (arith, size-weight t, size-weight (remove k t), weigh
 -- of any tree
 pub size-less : (k : ℕ) (t : Tree) → size (remove k t) ≤ size t
 unfolding remove
-size-less k (leaf p j e) = omega arith
+size-less k (leaf j e) = omega arith
 size-less k (node p l r) = let h : 2 ≤ size (node p l r) = omega (arith, size-some l, size-some r) in omega (arith, size-remove k (node p l r) h)

@@ -22,17 +22,17 @@ unfolding turn
 turn-over true w x a c b = refl
 turn-over false w x a c b = refl
 
-module _ (u : (p k e : ℕ) → ℕ) (v : ℕ → ℕ) where
+module _ (u : (k e : ℕ) → ℕ) (v : ℕ → ℕ) where
   weight-twice : (s : Bool) (w x : ℕ) (a c b : Tree) → weight u v (twice s w x a c b) ≡ v w + (v x + weight u v a + weight u v c) + weight u v b
   unfolding twice
-  weight-twice s w x a (leaf p k e) b =
-      omega (arith, weight-over s w (over s x a (leaf p k e)) b u v, weight-over s x a (leaf p k e) u v)
+  weight-twice s w x a (leaf k e) b =
+      omega (arith, weight-over s w (over s x a (leaf k e)) b u v, weight-over s x a (leaf k e) u v)
   weight-twice s w x a (node y c d) b =
       omega (arith, weight-over s y (over s x a (near s c d)) (over s w (far s c d) b) u v, weight-over s x a (near s c d) u v, weight-over s w (far s c d) b u v, weight-sides u v s c d)
 
   pub weight-turn : (s : Bool) (w : ℕ) (a b : Tree) → weight u v (turn s w a b) ≡ v w + weight u v a + weight u v b
   unfolding turn
-  weight-turn s w (leaf p k e) b = weight-over s w (leaf p k e) b u v
+  weight-turn s w (leaf k e) b = weight-over s w (leaf k e) b u v
   weight-turn s w (node x c d) b = elim (case-le (height (far s c d)) (height (near s c d))) [
     | inl y ↦ rw (y .1) (omega (arith, weight-over s x (near s c d) (over s w (far s c d) b) u v, weight-over s w (far s c d) b u v, weight-sides u v s c d))
     | inr y ↦ rw (y .1) (omega (arith, weight-twice s w x (near s c d) (far s c d) b, weight-sides u v s c d))
@@ -47,13 +47,13 @@ module _ (u : (p k e : ℕ) → ℕ) (v : ℕ → ℕ) where
 
 height-twice : (s : Bool) (w x : ℕ) (a c b : Tree) → height a < height c → height b < height c + 1 → height (twice s w x a c b) ≤ height c + 2
 unfolding twice
-height-twice s w x a (leaf p k e) b h g = absurd (omega arith)
+height-twice s w x a (leaf k e) b h g = absurd (omega arith)
 height-twice s w x a (node y c d) b h g =
     omega (arith, height-over s y (over s x a (near s c d)) (over s w (far s c d) b), height-over s x a (near s c d), height-over s w (far s c d) b, height-sides s c d)
 
 pub height-turn : (s : Bool) (w : ℕ) (a b : Tree) → height b + 2 ≤ height a → height (turn s w a b) ≤ height a + 1
 unfolding turn
-height-turn s w (leaf p k e) b h = absurd (omega arith)
+height-turn s w (leaf k e) b h = absurd (omega arith)
 height-turn s w (node x c d) b h = elim (case-le (height (far s c d)) (height (near s c d))) [
   | inl y ↦ rw (y .1) (omega (arith, height-over s x (near s c d) (over s w (far s c d) b), height-over s w (far s c d) b, height-sides s c d))
   | inr y ↦ rw (y .1) (omega (arith, height-twice s w x (near s c d) (far s c d) b (y .0) (omega (arith, height-sides s c d)), height-sides s c d))
@@ -67,7 +67,7 @@ height-balance w l r = elim (case-le (height r + 2) (height l)) [
 ]
 
 -- balanced over a near and a far tree
-pub weight-balance-on : (u : (p k e : ℕ) → ℕ) (v : ℕ → ℕ) (s : Bool) (w : ℕ) (a b : Tree) → weight u v (balance w (near s a b) (far s a b)) ≡ v w + weight u v a + weight u v b
+pub weight-balance-on : (u : (k e : ℕ) → ℕ) (v : ℕ → ℕ) (s : Bool) (w : ℕ) (a b : Tree) → weight u v (balance w (near s a b) (far s a b)) ≡ v w + weight u v a + weight u v b
 weight-balance-on u v s w a b = omega (arith, weight-balance u v w (near s a b) (far s a b), weight-sides u v s a b)
 
 pub height-balance-on : (s : Bool) (w : ℕ) (a b : Tree) → height (balance w (near s a b) (far s a b)) ≤ max (height a) (height b) + 1

@@ -13,7 +13,7 @@ use Rattle.shape.specs.Tree.{Tree, leaf, node, lo, top}
 -- where a search ends: at no leaf, or at a leaf
 pub data Out : Type 0 where
   none : Out
-  some : (place key end : ℕ) → Out
+  some : (key end : ℕ) → Out
 
 pub record Result : Type 0 where
   pub out : Out
@@ -22,22 +22,22 @@ pub record Result : Type 0 where
 -- A: "the nodes from root to a leaf, the root and leaf included, going right exactly if the node's earliest right start
 -- is at or before r": that of the right child y is startOf (lo y)
 abbrev pub path : (r : ℕ) → Tree → List Tree
-path r (leaf p k e) = leaf p k e ∷ []
+path r (leaf k e) = leaf k e ∷ []
 path r (node p x y) = node p x y ∷ pick (leb (startOf (lo y)) r) (path r y) (path r x)
 
 -- B: "one left child for each right turn", from the root down
 abbrev pub passed : (r : ℕ) → Tree → List Tree
-passed r (leaf p k e) = []
+passed r (leaf k e) = []
 passed r (node p x y) = pick (leb (startOf (lo y)) r) (x ∷ passed r y) (passed r x)
 
 -- the leaf reached: where the path ends
 abbrev pub reached : (r : ℕ) → Tree → Tree
-reached r (leaf p k e) = leaf p k e
+reached r (leaf k e) = leaf k e
 reached r (node p x y) = pick (leb (startOf (lo y)) r) (reached r y) (reached r x)
 
 -- "the leaf reached fits"
 abbrev pub fitting : (r f : ℕ) → Tree → Out
-fitting r f (leaf p k e) = pick (fits (startOf k) e r f) (some p k e) none
+fitting r f (leaf k e) = pick (fits (startOf k) e r f) (some k e) none
 fitting r f (node p x y) = none
 
 -- "It is marked if its greatest end is at least f"; "the marked node deepest in the tree" is the last one passed
@@ -56,17 +56,17 @@ deepest f (x ∷ xs) = deeper (deepest f xs) (leb f (top x)) x
 -- C: "from the marked node deepest in the tree down to a leaf: one visit to the right child at each inner node; if that
 -- child's greatest end is less than f, one more visit, to the left child, and the search goes there"
 abbrev pub descended : (f : ℕ) → Tree → List Tree
-descended f (leaf p k e) = []
+descended f (leaf k e) = []
 descended f (node p x y) = y ∷ pick (leb f (top y)) (descended f y) (x ∷ descended f x)
 
 -- the leaf where that ends
 abbrev pub bottom : (f : ℕ) → Tree → Out
-bottom f (leaf p k e) = some p k e
+bottom f (leaf k e) = some k e
 bottom f (node p x y) = pick (leb f (top y)) (bottom f y) (bottom f x)
 
 -- "C: zero if the leaf reached fits, or if nothing is marked"
 abbrev pub descent : (f : ℕ) → Out → Deepest → Result
-descent f (some p k e) m = record { out = some p k e; visits = 0 }
+descent f (some k e) m = record { out = some p k e; visits = 0 }
 descent f none unmarked = record { out = none; visits = 0 }
 descent f none (marked x) = record { out = bottom f x; visits = length (descended f x) }
 

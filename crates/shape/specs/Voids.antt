@@ -8,6 +8,6 @@ use Rattle.shape.specs.Tree.{Tree, In}
 pub record VoidsIn (t : Tree) (c s e : ℕ) : Type 0 where
   pub place : ℕ
   pub key : ℕ
-  pub inside : In place key e t
+  pub inside : In key e t
   pub channel : channelOf key ≡ c
   pub start : startOf key ≡ s

@@ -67,7 +67,7 @@ under-more g h unmarked i u = tt
 under-more g h (marked y) i u = omega arith
 
 mark-under : (r f : ℕ) (t : Tree) → Under (height t) (deepest f (passed r t))
-mark-under r f (leaf p k e) = tt
+mark-under r f (leaf k e) = tt
 mark-under r f (node p x y) = elim (case-le (startOf (lo y)) r) [
   | inl z ↦ rw (z .1) (under-deeper (height y) _ (deepest f (passed r y)) (leb f (top x)) x (omega arith) (omega arith) (mark-under r f y))
   | inr z ↦ rw (z .1) (under-more (height x) _ (deepest f (passed r x)) (omega arith) (mark-under r f x))
