@@ -1,66 +1,65 @@
 -- Each place of a tree with rising keys is used once: that is proved here, so that nobody has to check it.
--- A place of a tree has a node whose least key is in the tree's range, and that is no higher than the tree.
+-- At a place of a tree is a node whose least key is in the tree's range, and that is lower than the tree.
 use mathlib.Core.Path.{_≡_, ap, _∙_}
 use mathlib.Core.List.{List}
-use Prim.Native.Nat.{ℕ, _+_, _<_, _≤_, max}
+use Prim.Native.Nat.{ℕ, _+_, _*_, _<_, _≤_}
 use native.Mathlib.Decide.{decLt}
 use native.Mathlib.Omega.{arith}
-use Rattle.shape.specs.Tree.{Tree, leaf, node, place, height, lo, Ord, same, uses, Once}
+use Rattle.shape.specs.Tree.{Tree, leaf, node, height, lo, Ord, same, uses, Once}
+use Rattle.shape.specs.TreeLaws.{lo-in}
 use Rattle.node.specs.declared.Node.{Node}
 use Rattle.node.specs.Layout.{nodeAt}
-use Rattle.node.specs.Rep.{Rep}
+use Rattle.node.specs.Rep.{Stands}
 use Rattle.shape.specs.PlaceLaws.{same-is, same-most}
-use Rattle.node.proofs.Reps.{rep-at}
+use Rattle.node.proofs.Reps.{seen, left-stands, right-stands}
 
-ord-lo : (a b : ℕ) (t : Tree) → Ord a b t → (a ≤ lo t) × (lo t < b)
-ord-lo a b (leaf p k e) o = o
-ord-lo a b (node p l r) o = omega (arith, ord-lo a (lo r) l (o .0), ord-lo (lo r) b r (o .1))
+-- what the memory has at a place of the tree, on its left seat
+record Inside (m : List ℕ) (x a b : ℕ) (t : Tree) : Type 0 where
+  from : a ≤ nodeAt m (2 * x) .lo
+  to : nodeAt m (2 * x) .lo < b
+  high : nodeAt m (2 * x) .height < height t
 
--- what the memory has at a place of the tree
-record Inside (m : List ℕ) (q a b : ℕ) (t : Tree) : Type 0 where
-  from : a ≤ nodeAt m q .lo
-  to : nodeAt m q .lo < b
-  high : nodeAt m q .height ≤ height t
+-- at the place of the root's children: its left child
+record Own (m : List ℕ) (x : ℕ) (l : Tree) : Type 0 where
+  least : nodeAt m (2 * x) .lo ≡ lo l
+  tall : nodeAt m (2 * x) .height ≡ height l
 
-at-root : (m : List ℕ) (q a b : ℕ) (t : Tree) → Rep m t → Ord a b t → q ≡ place t → Inside m q a b t
-at-root m q a b t r o h =
-    let e = ap (nodeAt m) h ∙ rep-at t m r in
-    let l = ap (λ (n : Node). n .lo) e in
-    let i = ap (λ (n : Node). n .height) e in
-    let x = ord-lo a b t o in
-    record { from = omega arith; to = omega arith; high = omega arith }
+own : (m : List ℕ) (s q x : ℕ) (l r : Tree) → Stands m s (node q l r) → x ≡ q → Own m x l
+own m s q x l r f e =
+    let g = ap (λ (y : ℕ). nodeAt m (2 * y)) e ∙ seen (left-stands f) in
+    record { least = ap (λ (n : Node). n .lo) g; tall = ap (λ (n : Node). n .height) g }
 
-inside : (m : List ℕ) (q a b : ℕ) (t : Tree) → Rep m t → Ord a b t → 1 ≤ uses q t → Inside m q a b t
-unfolding Rep
-inside m q a b (leaf p k e) r o h = at-root m q a b (leaf p k e) r o (same-is q p h)
-inside m q a b (node p l s) r o h =
-    let x = ord-lo a (lo s) l (o .0) in
-    let y = ord-lo (lo s) b s (o .1) in
-    elim (decLt 0 (uses q l)) [
-      | yes u ↦ let i = inside m q a (lo s) l (r .2) (o .0) u in record { from = i .from; to = omega arith; high = omega arith }
-      | no u ↦ elim (decLt 0 (uses q s)) [
-        | yes v ↦ let i = inside m q (lo s) b s (r .3) (o .1) v in record { from = omega arith; to = i .to; high = omega arith }
-        | no v ↦ at-root m q a b (node p l s) r o (same-is q p (omega arith))
+inside : (m : List ℕ) (s x a b : ℕ) (t : Tree) → Stands m s t → Ord a b t → 1 ≤ uses x t → Inside m x a b t
+inside m s x a b (leaf k e) f o h = absurd (omega arith)
+inside m s x a b (node q l r) f o h =
+    let u = lo-in a (lo r) l (o .0) in
+    let v = lo-in (lo r) b r (o .1) in
+    elim (decLt 0 (uses x l)) [
+      | yes y ↦ let i = inside m (2 * q) x a (lo r) l (left-stands f) (o .0) y in record { from = i .from; to = omega (arith, i .to); high = omega (arith, i .high) }
+      | no y ↦ elim (decLt 0 (uses x r)) [
+        | yes z ↦ let i = inside m (2 * q + 1) x (lo r) b r (right-stands f) (o .1) z in record { from = omega (arith, i .from); to = i .to; high = omega (arith, i .high) }
+        | no z ↦ let w = own m s q x l r f (same-is x q (omega arith)) in
+            record { from = omega (arith, w .least); to = omega (arith, w .least); high = omega (arith, w .tall) }
       ]
     ]
 
-pub rep-once : (m : List ℕ) (a b : ℕ) (t : Tree) → Rep m t → Ord a b t → Once t
-unfolding Rep
-rep-once m a b (leaf p k e) r o q = same-most q p
-rep-once m a b (node p l s) r o q =
-    let u = same-most q p in
-    let v = rep-once m a (lo s) l (r .2) (o .0) q in
-    let w = rep-once m (lo s) b s (r .3) (o .1) q in
-    let fl : 1 ≤ uses q l → Inside m q a (lo s) l = inside m q a (lo s) l (r .2) (o .0) in
-    let fs : 1 ≤ uses q s → Inside m q (lo s) b s = inside m q (lo s) b s (r .3) (o .1) in
-    let root : 1 ≤ same q p → nodeAt m q .height ≡ max (height l) (height s) + 1 = λ h. ap (λ (n : Node). n .height) (ap (nodeAt m) (same-is q p h) ∙ r .1) in
-    elim (decLt 0 (uses q l)) [
-      | yes y ↦ let i = fl y in elim (decLt 0 (uses q s)) [
-        | yes z ↦ let j = fs z in omega arith
-        | no z ↦ elim (decLt 0 (same q p)) [ yes x ↦ let g = root x in omega arith | no x ↦ omega arith ]
+pub stands-once : (m : List ℕ) (s a b : ℕ) (t : Tree) → Stands m s t → Ord a b t → Once t
+stands-once m s a b (leaf k e) f o x = omega arith
+stands-once m s a b (node q l r) f o x =
+    let u = same-most x q in
+    let v = stands-once m (2 * q) a (lo r) l (left-stands f) (o .0) x in
+    let w = stands-once m (2 * q + 1) (lo r) b r (right-stands f) (o .1) x in
+    let c = lo-in a (lo r) l (o .0) in
+    let fl : 1 ≤ uses x l → Inside m x a (lo r) l = inside m (2 * q) x a (lo r) l (left-stands f) (o .0) in
+    let fr : 1 ≤ uses x r → Inside m x (lo r) b r = inside m (2 * q + 1) x (lo r) b r (right-stands f) (o .1) in
+    let root : 1 ≤ same x q → Own m x l = λ h. own m s q x l r f (same-is x q h) in
+    elim (decLt 0 (uses x l)) [
+      | yes y ↦ let i = fl y in elim (decLt 0 (uses x r)) [
+        | yes z ↦ let j = fr z in absurd (omega (arith, i .to, j .from))
+        | no z ↦ elim (decLt 0 (same x q)) [ yes k ↦ absurd (omega (arith, root k .tall, i .high)) | no k ↦ omega arith ]
       ]
-      | no y ↦ elim (decLt 0 (uses q s)) [
-        | yes z ↦ let j = fs z in elim (decLt 0 (same q p)) [ yes x ↦ let g = root x in omega arith | no x ↦ omega arith ]
+      | no y ↦ elim (decLt 0 (uses x r)) [
+        | yes z ↦ let j = fr z in elim (decLt 0 (same x q)) [ yes k ↦ absurd (omega (arith, root k .least, j .from)) | no k ↦ omega arith ]
         | no z ↦ omega arith
       ]
     ]

@@ -1,4 +1,4 @@
--- A way down is noted place by place.
+-- A way down is noted seat by seat.
 use mathlib.Core.Path.{_≡_, _∙_}
 use mathlib.Core.List.{List}
 use Prim.Native.Nat.{ℕ, suc, _+_, _<_, _≤_}
@@ -12,7 +12,7 @@ pub down-start : (m : List ℕ) (t : ℕ) (ws : List ℕ) → 0 < length ws → 
 down-start m t ws h =
     record { long = omega (arith, length-set ws 0 t); first = getD-set-same ws 0 t 0 h; steps = λ i l. absurd (omega arith) }
 
--- the places noted before stay
+-- the seats noted before stay
 pub noted : (ws : List ℕ) (d x i : ℕ) → i ≤ d → getD (set ws (d + 1) x) i 0 ≡ getD ws i 0
 noted ws d x i l = getD-set-other ws (d + 1) i x 0 (λ q. omega arith)
 

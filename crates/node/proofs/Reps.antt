@@ -1,14 +1,15 @@
--- The laws of trees that stand in memory: what keeps them, what their node says, and that a place has one tree.
+-- The laws of trees that stand in memory: what their node says, what keeps and what moves them, and that a seat has one tree.
 use mathlib.Core.Path.{_≡_, refl, sym, ap, _∙_}
+use mathlib.Core.Logic.{_≢_}
 use mathlib.Core.List.{List}
-use Prim.Native.Nat.{ℕ, zero, suc, _+_, _<_, _≤_, max}
+use Prim.Native.Nat.{ℕ, zero, suc, _+_, _*_, _/_, _<_, _≤_, max}
 use native.Mathlib.Omega.{arith}
 use borrow.Author.Tests.{ne-eqb}
 use lib.ListN.{length}
-use Rattle.shape.specs.Tree.{Tree, leaf, node, place, height, same, uses}
+use Rattle.shape.specs.Tree.{Tree, leaf, node, height, same, uses}
 use Rattle.node.specs.declared.Node.{Node}
-use Rattle.node.specs.Layout.{Within, nodeAt, leafNode, Kept, Saved, Over, Mendable}
-use Rattle.node.specs.Rep.{nodeOf, Rep, Stands, treeAt}
+use Rattle.node.specs.Layout.{Within, nodeAt, leafNode, Kept, Saved, Over, Copied, Mendable}
+use Rattle.node.specs.Rep.{nodeOf, Stands, treeAt}
 use Rattle.shape.specs.PlaceLaws.{same-self, same-other}
 use Rattle.node.proofs.Frames.{node-kept, within-kept}
 
@@ -16,86 +17,104 @@ abbrev pub heightOf : Node → ℕ
 heightOf n = n .height
 
 -- ---- what a tree's own node says
-pub rep-at : (t : Tree) (m : List ℕ) → Rep m t → nodeAt m (place t) ≡ nodeOf t
-unfolding Rep
-rep-at (leaf p k e) m r = r .1
-rep-at (node p a b) m r = r .1
+pub seen : {m : List ℕ} {s : ℕ} {t : Tree} → Stands m s t → nodeAt m s ≡ nodeOf t
+unfolding Stands
+seen {m} {s} {leaf k e} f = f .1
+seen {m} {s} {node q a b} f = f .1
 
-pub rep-within : (t : Tree) (m : List ℕ) → Rep m t → Within m (place t)
-unfolding Rep
-rep-within (leaf p k e) m r = r .0
-rep-within (node p a b) m r = r .0
+pub within : {m : List ℕ} {s : ℕ} {t : Tree} → Stands m s t → Within m s
+unfolding Stands
+within {m} {s} {leaf k e} f = f .0
+within {m} {s} {node q a b} f = f .0
 
-pub seen : {m : List ℕ} {p : ℕ} {t : Tree} → Stands m p t → nodeAt m p ≡ nodeOf t
-seen {m} {p} {t} s = rw (s .at) at (rep-at t m (s .rep))
+pub tall : {m : List ℕ} {s : ℕ} {t : Tree} → Stands m s t → nodeAt m s .height ≡ height t
+tall f = ap heightOf (seen f)
 
-pub within : {m : List ℕ} {p : ℕ} {t : Tree} → Stands m p t → Within m p
-within {m} {p} {t} s = rw (s .at) at (rep-within t m (s .rep))
+-- ---- a node's children
+pub left-stands : {m : List ℕ} {s q : ℕ} {a b : Tree} → Stands m s (node q a b) → Stands m (2 * q) a
+unfolding Stands
+left-stands f = f .2
 
-pub tall : {m : List ℕ} {p : ℕ} {t : Tree} → Stands m p t → nodeAt m p .height ≡ height t
-tall s = ap heightOf (seen s)
+pub right-stands : {m : List ℕ} {s q : ℕ} {a b : Tree} → Stands m s (node q a b) → Stands m (2 * q + 1) b
+unfolding Stands
+right-stands f = f .3
 
--- ---- what keeps a tree
-pub rep-nodes : (t : Tree) (m m′ : List ℕ) → length m′ ≡ length m → ((z : ℕ) → 1 ≤ uses z t → nodeAt m′ z ≡ nodeAt m z) → Rep m t → Rep m′ t
-unfolding Rep
-rep-nodes (leaf p k e) m m′ q f r = (omega (arith, r .0), f p (omega (arith, same-self p)) ∙ r .1)
-rep-nodes (node p a b) m m′ q f r = (
-  omega (arith, r .0),
-  f p (omega (arith, same-self p)) ∙ r .1,
-  rep-nodes a m m′ q (λ z u. f z (omega arith)) (r .2),
-  rep-nodes b m m′ q (λ z u. f z (omega arith)) (r .3),
-)
+-- the place 0 is no node's: the root's seat is there
+pub stands-apart : (t : Tree) (m : List ℕ) (s : ℕ) → Stands m s t → uses 0 t ≡ 0
+stands-apart (leaf k e) m s f = refl
+stands-apart (node q a b) m s f =
+    let w = within (left-stands f) in
+    omega (arith, stands-apart a m (2 * q) (left-stands f), stands-apart b m (2 * q + 1) (right-stands f), same-other 0 q (λ e. omega (arith, w .1)))
 
-pub stands-nodes : {m m′ : List ℕ} {p : ℕ} {t : Tree} → length m′ ≡ length m → ((z : ℕ) → 1 ≤ uses z t → nodeAt m′ z ≡ nodeAt m z) → Stands m p t → Stands m′ p t
-stands-nodes {m} {m′} {p} {t} q f s = record { rep = rep-nodes t m m′ q f (s .rep); at = s .at }
+-- ---- what moves a tree: its node is at another seat, and its places are as they were
+pub stands-moved : (t : Tree) (m m′ : List ℕ) (s s′ : ℕ) → length m′ ≡ length m → Within m s′ → nodeAt m′ s′ ≡ nodeAt m s
+    → ((z : ℕ) → 1 ≤ uses (z / 2) t → nodeAt m′ z ≡ nodeAt m z) → Stands m s t → Stands m′ s′ t
+unfolding Stands
+stands-moved (leaf k e) m m′ s s′ q w n f r = (omega (arith, w), n ∙ r .1)
+stands-moved (node p a b) m m′ s s′ q w n f r =
+    let l : (2 * p) / 2 ≡ p = omega arith in
+    let h : (2 * p + 1) / 2 ≡ p = omega arith in
+    (
+      omega (arith, w),
+      n ∙ r .1,
+      stands-moved a m m′ (2 * p) (2 * p) q (within (r .2)) (f (2 * p) (rw l (omega (arith, same-self p)))) (λ z u. f z (omega arith)) (r .2),
+      stands-moved b m m′ (2 * p + 1) (2 * p + 1) q (within (r .3)) (f (2 * p + 1) (rw h (omega (arith, same-self p)))) (λ z u. f z (omega arith)) (r .3),
+    )
 
--- by the places that were written
-pub rep-frame : (t : Tree) (n : ℕ → ℕ) (m m′ : List ℕ) → Kept n m m′ → ((z : ℕ) → 1 ≤ uses z t → n z ≡ 0) → Rep m t → Rep m′ t
-rep-frame t n m m′ f h r = rep-nodes t m m′ (f .len) (λ z u. node-kept n m m′ f z (h z u)) r
+-- what keeps one
+pub stands-nodes : {m m′ : List ℕ} {s : ℕ} {t : Tree} → length m′ ≡ length m → nodeAt m′ s ≡ nodeAt m s
+    → ((z : ℕ) → 1 ≤ uses (z / 2) t → nodeAt m′ z ≡ nodeAt m z) → Stands m s t → Stands m′ s t
+stands-nodes {m} {m′} {s} {t} q n f r = stands-moved t m m′ s s q (within r) n f r
 
-pub stands-frame : {n : ℕ → ℕ} {m m′ : List ℕ} {p : ℕ} {t : Tree} → Kept n m m′ → ((z : ℕ) → 1 ≤ uses z t → n z ≡ 0) → Stands m p t → Stands m′ p t
-stands-frame {n} {m} {m′} {p} {t} f h s = record { rep = rep-frame t n m m′ f h (s .rep); at = s .at }
+-- by the seats that were written
+pub stands-frame : {n : ℕ → ℕ} {m m′ : List ℕ} {s : ℕ} {t : Tree} → Kept n m m′ → n s ≡ 0 → ((z : ℕ) → 1 ≤ uses (z / 2) t → n z ≡ 0) → Stands m s t → Stands m′ s t
+stands-frame {n} {m} {m′} {s} {t} k o h r = stands-nodes (k .len) (node-kept n m m′ k s o) (λ z u. node-kept n m m′ k z (h z u)) r
+
+-- a tree copied to another seat, which is none of its own
+pub copied-stands : {m m′ : List ℕ} {s s′ : ℕ} {t : Tree} → Copied s s′ m m′ → Within m s′ → uses (s′ / 2) t ≡ 0 → Stands m s t → Stands m′ s′ t
+copied-stands {m} {m′} {s} {s′} {t} c w o r = stands-moved t m m′ s s′ (c .kept .len) w (c .at) (λ z u. node-kept _ m m′ (c .kept) z (off z u)) r
+  where
+    off : (z : ℕ) → 1 ≤ uses (z / 2) t → same z s′ ≡ 0
+    off z u = same-other z s′ (λ e. omega (arith, ap (λ (y : ℕ). uses (y / 2) t) e))
 
 -- ---- what makes one
-pub leaf-stands : {m m′ : List ℕ} {p k e : ℕ} → Within m p → Saved p (leafNode k e) m m′ → Stands m′ p (leaf p k e)
-unfolding Rep
-leaf-stands {m} {m′} {p} {k} {e} w s = record { rep = (within-kept _ m m′ (s .kept) p w, s .at); at = refl }
+pub leaf-stands : {m m′ : List ℕ} {s k e : ℕ} → Within m s → Saved s (leafNode k e) m m′ → Stands m′ s (leaf k e)
+unfolding Stands
+leaf-stands {m} {m′} {s} {k} {e} w o = (within-kept _ m m′ (o .kept) s w, o .at)
 
-pub node-stands : {m m′ : List ℕ} {p l r : ℕ} {a b : Tree} → Within m p → Over p l r m m′ → Stands m l a → Stands m r b → uses p a ≡ 0 → uses p b ≡ 0 → Stands m′ p (node p a b)
-unfolding Rep
-node-stands {m} {m′} {p} {l} {r} {a} {b} w s f g za zb =
-    record {
-      rep = (
-        within-kept _ m m′ (s .kept) p w,
-        s .at ∙ (rw (seen f, seen g, ← f .at, ← g .at)),
-        rep-frame a _ m m′ (s .kept) (off a za) (f .rep),
-        rep-frame b _ m m′ (s .kept) (off b zb) (g .rep),
-      );
-      at = refl;
-    }
+-- a tree beside whose seats one other was written
+pub stands-beside : {m m′ : List ℕ} {s x : ℕ} {t : Tree} → Kept (λ z. same z s) m m′ → x ≢ s → uses (s / 2) t ≡ 0 → Stands m x t → Stands m′ x t
+stands-beside {m} {m′} {s} {x} {t} k d o r = stands-frame k (same-other x s d) off r
   where
-    off : (t : Tree) → uses p t ≡ 0 → (z : ℕ) → 1 ≤ uses z t → same z p ≡ 0
-    off t h z u = same-other z p (λ e. omega (arith, ap (λ (y : ℕ). uses y t) e))
+    off : (z : ℕ) → 1 ≤ uses (z / 2) t → same z s ≡ 0
+    off z u = same-other z s (λ e. omega (arith, ap (λ (y : ℕ). uses (y / 2) t) e))
 
-pub mendable : {m : List ℕ} {p l r : ℕ} {a b : Tree} → Within m p → Stands m l a → Stands m r b → height a < 4294967295 → height b < 4294967295 → Mendable m p l r
+pub node-stands : {m m′ : List ℕ} {s q : ℕ} {a b : Tree} → Within m s → Over s q m m′ → Stands m (2 * q) a → Stands m (2 * q + 1) b
+    → s / 2 ≢ q → uses (s / 2) a ≡ 0 → uses (s / 2) b ≡ 0 → Stands m′ s (node q a b)
+unfolding Stands
+node-stands {m} {m′} {s} {q} {a} {b} w o f g d za zb = (
+  within-kept _ m m′ (o .kept) s w,
+  o .at ∙ (rw (seen f, seen g)),
+  stands-beside (o .kept) (λ e. d (omega arith)) za f,
+  stands-beside (o .kept) (λ e. d (omega arith)) zb g,
+)
+
+pub mendable : {m : List ℕ} {s q : ℕ} {a b : Tree} → Within m s → Stands m (2 * q) a → Stands m (2 * q + 1) b → height a < 4294967295 → height b < 4294967295 → Mendable m s q
 mendable w f g ha hb =
     record { at = w; left = within f; right = within g; low-left = omega (arith, tall f); low-right = omega (arith, tall g) }
 
--- ---- a place has one tree
-pub decode : (t : Tree) (k : ℕ) (m : List ℕ) → Rep m t → height t ≤ k → treeAt k m (place t) ≡ t
-unfolding treeAt Rep
-decode (leaf p x e) zero m r h = rw (r .1)
-decode (leaf p x e) (suc k) m r h = rw (r .1)
-decode (node p a b) zero m r h = absurd (omega arith)
-decode (node p a b) (suc k) m r h =
-    let ra = decode a k m (r .2) (omega arith) in
-    let rb = decode b k m (r .3) (omega arith) in
+-- ---- a seat has one tree
+decode : (t : Tree) (k : ℕ) (m : List ℕ) (s : ℕ) → Stands m s t → height t ≤ k → treeAt k m s ≡ t
+unfolding treeAt Stands
+decode (leaf x e) zero m s r h = rw (r .1)
+decode (leaf x e) (suc k) m s r h = rw (r .1)
+decode (node q a b) zero m s r h = absurd (omega arith)
+decode (node q a b) (suc k) m s r h =
+    let ra = decode a k m (2 * q) (r .2) (omega arith) in
+    let rb = decode b k m (2 * q + 1) (r .3) (omega arith) in
     rw (r .1, ne-eqb (max (height a) (height b) + 1) 0 (λ e. omega arith), ra, rb)
 
-pub unique : (m : List ℕ) (a b : Tree) → Rep m a → Rep m b → place a ≡ place b → a ≡ b
-unique m a b ra rb p =
+pub one-tree : {m : List ℕ} {s : ℕ} {a b : Tree} → Stands m s a → Stands m s b → a ≡ b
+one-tree {m} {s} {a} {b} f g =
     let k = max (height a) (height b) in
-    sym (decode a k m ra (omega arith)) ∙ ap (treeAt k m) p ∙ decode b k m rb (omega arith)
-
-pub one-tree : {m : List ℕ} {p : ℕ} {a b : Tree} → Stands m p a → Stands m p b → a ≡ b
-one-tree {m} {p} {a} {b} f g = unique m a b (f .rep) (g .rep) (f .at ∙ sym (g .at))
+    sym (decode a k m s f (omega arith)) ∙ decode b k m s g (omega arith)

@@ -1,7 +1,7 @@
 -- What the contracts leave open: nothing. A tree and a frame fix every byte, so two memories that meet both are one.
 -- `Bytes m` is what lent memory always is: a list of bytes.
 use mathlib.Core.Path.{_≡_, sym, ap, _∙_}
-use mathlib.Core.Logic.{inl, inr}
+use mathlib.Core.Logic.{_⊎_, inl, inr}
 use mathlib.Core.List.{List}
 use Prim.Native.Nat.{ℕ, zero, suc, _+_, _*_, _-_, _/_, _%_, _≤_, _<_}
 use native.Mathlib.Decide.{decLt}
@@ -11,9 +11,10 @@ use lib.Seq.{ext-getD}
 use Rattle.numbers.specs.Words.{lowFirst, word}
 use Rattle.shape.specs.Tree.{Tree, leaf, node, uses}
 use Rattle.node.specs.declared.Node.{Node}
-use Rattle.node.specs.Layout.{base, nodeAt, linksOf, placeOf, Kept}
-use Rattle.node.specs.Rep.{Rep}
+use Rattle.node.specs.Layout.{base, nodeAt, linksOf, seatOf, Kept}
+use Rattle.node.specs.Rep.{Stands}
 use Rattle.shape.specs.PlaceLaws.{same-is}
+use Rattle.node.proofs.Reps.{seen}
 
 abbrev pub Bytes : List ℕ → Type 0
 Bytes m = (b : ℕ) → getD m b 0 < 256
@@ -37,44 +38,53 @@ word-bytes m m′ x y b e =
     rw k at (low-first-bytes 8 m m′ (8 * (b / 8)) x y e (b % 8) (omega arith))
 
 -- ---- equal nodes have equal words
-links-of : (m : List ℕ) (z : ℕ) → linksOf (nodeAt m z) ≡ word m (base z + 4)
+links-of : (m : List ℕ) (z : ℕ) → linksOf (nodeAt m z) ≡ word m (base z + 3)
 unfolding nodeAt
 links-of m z = omega arith
 
-node-words : (m m′ : List ℕ) (z i : ℕ) → nodeAt m z ≡ nodeAt m′ z → i < 5 → word m (base z + i) ≡ word m′ (base z + i)
+node-words : (m m′ : List ℕ) (z i : ℕ) → nodeAt m z ≡ nodeAt m′ z → i < 4 → word m (base z + i) ≡ word m′ (base z + i)
 unfolding nodeAt
 node-words m m′ z zero e h = let k : base z + 0 ≡ base z = omega arith in rw k (ap (λ (n : Node). n .lo) e)
-node-words m m′ z (suc zero) e h = ap (λ (n : Node). n .split) e
-node-words m m′ z (suc (suc zero)) e h = ap (λ (n : Node). n .top) e
-node-words m m′ z (suc (suc (suc zero))) e h = ap (λ (n : Node). n .low) e
-node-words m m′ z (suc (suc (suc (suc zero)))) e h = sym (links-of m z) ∙ ap linksOf e ∙ links-of m′ z
-node-words m m′ z (suc (suc (suc (suc (suc i))))) e h = absurd (omega arith)
+node-words m m′ z (suc zero) e h = ap (λ (n : Node). n .top) e
+node-words m m′ z (suc (suc zero)) e h = ap (λ (n : Node). n .low) e
+node-words m m′ z (suc (suc (suc zero))) e h = sym (links-of m z) ∙ ap linksOf e ∙ links-of m′ z
+node-words m m′ z (suc (suc (suc (suc i)))) e h = absurd (omega arith)
 
-pub node-bytes : (m m′ : List ℕ) → Bytes m → Bytes m′ → (b : ℕ) → 208 ≤ b → nodeAt m (placeOf b) ≡ nodeAt m′ (placeOf b) → getD m b 0 ≡ getD m′ b 0
+pub node-bytes : (m m′ : List ℕ) → Bytes m → Bytes m′ → (b : ℕ) → 224 ≤ b → nodeAt m (seatOf b) ≡ nodeAt m′ (seatOf b) → getD m b 0 ≡ getD m′ b 0
 node-bytes m m′ x y b h e =
-    let k : base (placeOf b) + (b - 208) % 40 / 8 ≡ b / 8 = omega arith in
-    word-bytes m m′ x y b (rw k at (node-words m m′ (placeOf b) ((b - 208) % 40 / 8) e (omega arith)))
+    let k : base (seatOf b) + (b - 192) % 32 / 8 ≡ b / 8 = omega arith in
+    word-bytes m m′ x y b (rw k at (node-words m m′ (seatOf b) ((b - 192) % 32 / 8) e (omega arith)))
 
--- ---- a tree's nodes are fixed
-pub rep-same : (t : Tree) (m m′ : List ℕ) (z : ℕ) → Rep m t → Rep m′ t → 1 ≤ uses z t → nodeAt m z ≡ nodeAt m′ z
-unfolding Rep
-rep-same (leaf p k e) m m′ z r r′ h = let g : z ≡ p = same-is z p h in rw g (r .1 ∙ sym (r′ .1))
-rep-same (node p a b) m m′ z r r′ h = elim (decLt 0 (uses z a)) [
-  | yes y ↦ rep-same a m m′ z (r .2) (r′ .2) y
-  | no y ↦ elim (decLt 0 (uses z b)) [
-    | yes x ↦ rep-same b m m′ z (r .3) (r′ .3) x
-    | no x ↦ let g : z ≡ p = same-is z p (omega arith) in rw g (r .1 ∙ sym (r′ .1))
+-- ---- a tree's nodes are fixed: its own, and those at its places
+pub own-same : (t : Tree) (m m′ : List ℕ) (s : ℕ) → Stands m s t → Stands m′ s t → nodeAt m s ≡ nodeAt m′ s
+own-same t m m′ s r r′ = seen r ∙ sym (seen r′)
+
+pub stands-same : (t : Tree) (m m′ : List ℕ) (s z : ℕ) → Stands m s t → Stands m′ s t → 1 ≤ uses (z / 2) t → nodeAt m z ≡ nodeAt m′ z
+unfolding Stands
+stands-same (leaf k e) m m′ s z r r′ h = absurd (omega arith)
+stands-same (node q a b) m m′ s z r r′ h = elim (decLt 0 (uses (z / 2) a)) [
+  | yes y ↦ stands-same a m m′ (2 * q) z (r .2) (r′ .2) y
+  | no y ↦ elim (decLt 0 (uses (z / 2) b)) [
+    | yes x ↦ stands-same b m m′ (2 * q + 1) z (r .3) (r′ .3) x
+    | no x ↦ let g : z / 2 ≡ q = same-is (z / 2) q (omega arith) in elim (decLt (2 * q) z) [
+      | yes l ↦ let e : z ≡ 2 * q + 1 = omega arith in rw e (own-same b m m′ (2 * q + 1) (r .3) (r′ .3))
+      | no l ↦ let e : z ≡ 2 * q = omega arith in rw e (own-same a m m′ (2 * q) (r .2) (r′ .2))
+    ]
   ]
 ]
 
--- two memories after one, with the same tree in them, and written only at its places
-pub determined : (n : ℕ → ℕ) (t : Tree) (m m′ m″ : List ℕ) → ((z : ℕ) → 1 ≤ n z → 1 ≤ uses z t) → Bytes m′ → Bytes m″
-    → Rep m′ t → Kept n m m′ → Rep m″ t → Kept n m m″ → m′ ≡ m″
-determined n t m m′ m″ on x y r f r′ g =
-    ext-getD 0 m′ m″ (f .len ∙ sym (g .len)) (λ b l. elim (decLt b 208) [
+-- two memories after one, with the same tree in them, and written only at its seat and its places
+pub determined : (n : ℕ → ℕ) (t : Tree) (s : ℕ) (m m′ m″ : List ℕ) → ((z : ℕ) → 1 ≤ n z → (z ≡ s) ⊎ (1 ≤ uses (z / 2) t)) → Bytes m′ → Bytes m″
+    → Stands m′ s t → Kept n m m′ → Stands m″ s t → Kept n m m″ → m′ ≡ m″
+determined n t s m m′ m″ on x y r f r′ g =
+    ext-getD 0 m′ m″ (f .len ∙ sym (g .len)) (λ b l. elim (decLt b 224) [
       | yes h ↦ f .byte b (inl h) ∙ sym (g .byte b (inl h))
-      | no h ↦ elim (decLt 0 (n (placeOf b))) [
-        | yes u ↦ node-bytes m′ m″ x y b (omega arith) (rep-same t m′ m″ (placeOf b) r r′ (on (placeOf b) u))
-        | no u ↦ let z : n (placeOf b) ≡ 0 = omega arith in f .byte b (inr z) ∙ sym (g .byte b (inr z))
+      | no h ↦ elim (decLt 0 (n (seatOf b))) [
+        | yes u ↦ node-bytes m′ m″ x y b (omega arith) (at (seatOf b) (on (seatOf b) u))
+        | no u ↦ let z : n (seatOf b) ≡ 0 = omega arith in f .byte b (inr z) ∙ sym (g .byte b (inr z))
       ]
     ])
+  where
+    at : (z : ℕ) → (z ≡ s) ⊎ (1 ≤ uses (z / 2) t) → nodeAt m′ z ≡ nodeAt m″ z
+    at z (inl e) = rw e (own-same t m′ m″ s r r′)
+    at z (inr h) = stands-same t m′ m″ s z r r′ h

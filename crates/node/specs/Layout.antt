@@ -1,4 +1,4 @@
--- Nodes in lent memory: where the words of the node at a place stand, and what a change of nodes keeps, byte for byte.
+-- Nodes in lent memory: where the words of the node at a seat stand, and what a change of nodes keeps, byte for byte.
 -- The numbers of the layout are here and in docs/ARCHITECTURE.md only.
 use mathlib.Core.Path.{_≡_}
 use mathlib.Core.Logic.{_⊎_}
@@ -8,124 +8,123 @@ use Prim.Native.Nat.{ℕ, _+_, _*_, _-_, _/_, _%_, _≤_, _<_, min, max}
 use lib.ListN.{length, getD}
 use Rattle.numbers.specs.Words.{word, store}
 use Rattle.shape.specs.Tree.{same}
+use Rattle.shape.specs.Side.{near, far}
 use Rattle.node.specs.declared.Node.{Node}
 
--- the words of the header, and of each node after it
+-- the words of the header, and of each node after it; there is no node at seat 0: the header ends where seat 1 begins
 abbrev pub headerWords : ℕ
-headerWords = 26
+headerWords = 28
 
 abbrev pub nodeWords : ℕ
-nodeWords = 5
+nodeWords = 4
 
--- the first word of the node at place p
+-- the first word of the node at seat s
 abbrev pub base : ℕ → ℕ
-base p = nodeWords * p + headerWords
+base s = nodeWords * s + 24
 
--- the node at place p is inside the memory, and p can be written in a node
+-- the root's seat; every other node is beside its sibling: the place q has the seats 2 q, for a left child, and 2 q + 1
+abbrev pub rootSeat : ℕ
+rootSeat = 1
+
+-- the node at seat s is inside the memory, and s can be noted in a way
 abbrev pub Within : List ℕ → ℕ → Type 0
-Within m p = (40 * p + 248 ≤ length m) × (p < 65536)
+Within m s = (32 * s + 224 ≤ length m) × (1 ≤ s) × (s < 65536)
 
 -- heights are written in 32 bits: no tree may be higher than this (a link's trees are lower by far)
 abbrev pub highest : ℕ
 highest = 4294967288
 
--- the node at place p
+-- the node at seat s
 unfoldable pub nodeAt : List ℕ → ℕ → Node
-nodeAt m p =
+nodeAt m s =
     record {
-      height = word m (base p + 4) / 4294967296;
-      lo = word m (base p);
-      split = word m (base p + 1);
-      top = word m (base p + 2);
-      low = word m (base p + 3);
-      left = word m (base p + 4) / 65536 % 65536;
-      right = word m (base p + 4) % 65536;
+      height = word m (base s + 3) / 4294967296;
+      lo = word m (base s);
+      top = word m (base s + 1);
+      low = word m (base s + 2);
+      place = word m (base s + 3) % 4294967296;
     }
 
--- height and both places in one word
+-- height and place in one word
 abbrev pub linksOf : Node → ℕ
-linksOf n = n .height * 4294967296 + n .left * 65536 + n .right
+linksOf n = n .height * 4294967296 + n .place
 
 abbrev pub Fits : Node → Type 0
-Fits n = (n .height < 4294967296) × (n .left < 65536) × (n .right < 65536)
+Fits n = (n .height < 4294967296) × (n .place < 4294967296)
 
--- the memory with the sums of n at place p: four words; and with n there, height and places too
+-- the memory with the sums of n at seat s: three words; and with n there, height and place too
 unfoldable pub sumsSaved : List ℕ → ℕ → Node → List ℕ
-sumsSaved m p n = store (store (store (store m (base p) (n .lo)) (base p + 1) (n .split)) (base p + 2) (n .top)) (base p + 3) (n .low)
+sumsSaved m s n = store (store (store m (base s) (n .lo)) (base s + 1) (n .top)) (base s + 2) (n .low)
 
 unfoldable pub saved : List ℕ → ℕ → Node → List ℕ
-saved m p n = store (sumsSaved m p n) (base p + 4) (linksOf n)
+saved m s n = store (sumsSaved m s n) (base s + 3) (linksOf n)
 
 -- a leaf's node
 abbrev pub leafNode : (key end : ℕ) → Node
-leafNode k e = record { height = 0; lo = k; split = k; top = e; low = e; left = 0; right = 0 }
+leafNode k e = record { height = 0; lo = k; top = e; low = e; place = 0 }
 
--- the node over two others, which stand at l and r
-abbrev pub overNode : (x y : Node) → (l r : ℕ) → Node
-overNode x y l r =
-    record {
-      height = max (x .height) (y .height) + 1;
-      lo = x .lo;
-      split = y .lo;
-      top = max (x .top) (y .top);
-      low = min (x .low) (y .low);
-      left = l;
-      right = r;
-    }
+-- the node over two others, which stand at place q
+abbrev pub overNode : (x y : Node) → (q : ℕ) → Node
+overNode x y q =
+    record { height = max (x .height) (y .height) + 1; lo = x .lo; top = max (x .top) (y .top); low = min (x .low) (y .low); place = q }
 
--- the node k with the sums of n: height and places are as they were
+-- the node k with the sums of n: height and place are as they were
 abbrev pub withSums : (n k : Node) → Node
-withSums n k = record { height = k .height; lo = n .lo; split = n .split; top = n .top; low = n .low; left = k .left; right = k .right }
+withSums n k = record { height = k .height; lo = n .lo; top = n .top; low = n .low; place = k .place }
 
 -- the node n with the sums of the two others, taken anew
 abbrev pub summedNode : (n x y : Node) → Node
-summedNode n x y = withSums (overNode x y 0 0) n
+summedNode n x y = withSums (overNode x y 0) n
 
 -- two nodes say the same of what is below them
 abbrev pub SameSums : (x y : Node) → Type 0
-SameSums x y = (x .lo ≡ y .lo) × (x .split ≡ y .split) × (x .top ≡ y .top) × (x .low ≡ y .low)
+SameSums x y = (x .lo ≡ y .lo) × (x .top ≡ y .top) × (x .low ≡ y .low)
 
 -- ---- the frame
--- the place whose node has the byte b
-abbrev pub placeOf : (b : ℕ) → ℕ
-placeOf b = (b - 208) / 40
+-- the seat whose node has the byte b
+abbrev pub seatOf : (b : ℕ) → ℕ
+seatOf b = (b - 192) / 32
 
--- m′ is as long as m, and differs from it at most in the nodes of places z with n z > 0: not in the header, not in another node.
--- n z says how often the place z may have been written
+-- m′ is as long as m, and differs from it at most in the nodes of seats z with n z > 0: not in the header, not in another node.
+-- n z says how often the seat z may have been written
 pub record Kept (n : ℕ → ℕ) (m m′ : List ℕ) : Type 0 where
   pub len : length m′ ≡ length m
-  pub byte : (b : ℕ) → (b < 208) ⊎ (n (placeOf b) ≡ 0) → getD m′ b 0 ≡ getD m b 0
+  pub byte : (b : ℕ) → (b < 224) ⊎ (n (seatOf b) ≡ 0) → getD m′ b 0 ≡ getD m b 0
 
--- m′ is m with n at place p
-pub record Saved (p : ℕ) (n : Node) (m m′ : List ℕ) : Type 0 where
-  pub at : nodeAt m′ p ≡ n
-  pub kept : Kept (λ z. same z p) m m′
+-- m′ is m with n at seat s
+pub record Saved (s : ℕ) (n : Node) (m m′ : List ℕ) : Type 0 where
+  pub at : nodeAt m′ s ≡ n
+  pub kept : Kept (λ z. same z s) m m′
 
--- m′ is m with p over the nodes at l and r
-abbrev pub Over : (p l r : ℕ) → (m m′ : List ℕ) → Type 0
-Over p l r m m′ = Saved p (overNode (nodeAt m l) (nodeAt m r) l r) m m′
+-- m′ is m with s over the nodes at place q
+abbrev pub Over : (s q : ℕ) → (m m′ : List ℕ) → Type 0
+Over s q m m′ = Saved s (overNode (nodeAt m (2 * q)) (nodeAt m (2 * q + 1)) q) m m′
 
--- what writing p over l and r asks
-pub record Mendable (m : List ℕ) (p l r : ℕ) : Type 0 where
-  pub at : Within m p
-  pub left : Within m l
-  pub right : Within m r
-  pub low-left : nodeAt m l .height < 4294967295
-  pub low-right : nodeAt m r .height < 4294967295
+-- m′ is m with the node of one seat at another too
+abbrev pub Copied : (from to : ℕ) → (m m′ : List ℕ) → Type 0
+Copied s s′ m m′ = Saved s′ (nodeAt m s) m m′
+
+-- what writing s over the nodes at place q asks
+pub record Mendable (m : List ℕ) (s q : ℕ) : Type 0 where
+  pub at : Within m s
+  pub left : Within m (2 * q)
+  pub right : Within m (2 * q + 1)
+  pub low-left : nodeAt m (2 * q) .height < 4294967295
+  pub low-right : nodeAt m (2 * q + 1) .height < 4294967295
 
 -- ---- a node summed up anew
--- what that asks: p and its children are inside
-pub record Summable (m : List ℕ) (p : ℕ) : Type 0 where
-  pub at : Within m p
-  pub left : Within m (nodeAt m p .left)
-  pub right : Within m (nodeAt m p .right)
+-- what that asks: s and the nodes at place q are inside
+pub record Summable (m : List ℕ) (s q : ℕ) : Type 0 where
+  pub at : Within m s
+  pub left : Within m (2 * q)
+  pub right : Within m (2 * q + 1)
 
--- m′ is m with p summed up anew
-abbrev pub Summed : (p : ℕ) → (m m′ : List ℕ) → Type 0
-Summed p m m′ = Saved p (summedNode (nodeAt m p) (nodeAt m (nodeAt m p .left)) (nodeAt m (nodeAt m p .right))) m m′
+-- m′ is m with s summed up anew, from the nodes at place q
+abbrev pub Summed : (s q : ℕ) → (m m′ : List ℕ) → Type 0
+Summed s q m m′ = Saved s (summedNode (nodeAt m s) (nodeAt m (2 * q)) (nodeAt m (2 * q + 1))) m m′
 
 -- and b is false exactly where that changed nothing: then no byte was written
-pub record Sums (p : ℕ) (b : Bool) (m m′ : List ℕ) : Type 0 where
-  pub summed : Summed p m m′
+pub record Sums (s q : ℕ) (b : Bool) (m m′ : List ℕ) : Type 0 where
+  pub summed : Summed s q m m′
   pub still : b ≡ false → m′ ≡ m
-  pub moved : b ≡ true → nodeAt m′ p ≡ nodeAt m p → ⊥
+  pub moved : b ≡ true → nodeAt m′ s ≡ nodeAt m s → ⊥

@@ -1,26 +1,29 @@
 // A node of the tree in lent memory: its words, after the header (docs/ARCHITECTURE.md).
-// Above this crate nobody speaks of a node's words: only of the node at a place.
+// Above this crate nobody speaks of a node's words: only of the node at a seat.
 ghost use mathlib.Core.Path.{_≡_};
 ghost use Prim.Native.Nat.{_+_, _*_, _≤_, _<_};
-ghost use Rattle.node.specs.Layout.{Within, Fits, nodeAt, leafNode, withSums, sumsSaved, Saved};
+ghost use Rattle.node.specs.Layout.{Within, Fits, nodeAt, leafNode, withSums, sumsSaved, Saved, Copied};
 
-// The layout: the words and bytes of the header, and those of each node after it.
-pub const HEADER_WORDS: usize = 26;
+// The layout: the words and bytes of the header, and those of each node after it. The first seat is 1: the header ends there.
+pub const HEADER_WORDS: usize = 28;
 
 pub const HEADER_BYTES: usize = 8 * HEADER_WORDS;
 
-pub const NODE_WORDS: usize = 5;
+pub const NODE_WORDS: usize = 4;
 
 pub const NODE_BYTES: usize = 8 * NODE_WORDS;
+
+pub const BEFORE_SEATS: usize = HEADER_WORDS - NODE_WORDS;
+
+// The root's seat.
+pub const ROOT: usize = 1;
 
 pub struct Node {
     pub height: u64,
     pub lo: u64,
-    pub split: u64,
     pub top: u64,
     pub low: u64,
-    pub left: u64,
-    pub right: u64,
+    pub place: u64,
 }
 
 // The node of a void with that key and end.
@@ -30,51 +33,56 @@ pub fn leaf(key: u64, end: u64) -> Node
     Node {
         height: 0,
         lo: key,
-        split: key,
         top: end,
         low: end,
-        left: 0,
-        right: 0,
+        place: 0,
     }
 }
 
-// The node at place p.
-pub fn load(mem: &[u8], p: usize) -> Node
-    requires { ⌜ Within (now mem) p ⌝ }
-    ensures { λ n. ⌜ n ≡ nodeAt (now (mem .entry)) p ⌝ }
+// The node at seat s.
+pub fn load(mem: &[u8], s: usize) -> Node
+    requires { ⌜ Within (now mem) s ⌝ }
+    ensures { λ n. ⌜ n ≡ nodeAt (now (mem .entry)) s ⌝ }
 {
-    let b = NODE_WORDS * p + HEADER_WORDS;
-    let links = numbers::words::get(mem, b + 4);
+    let b = NODE_WORDS * s + BEFORE_SEATS;
+    let links = numbers::words::get(mem, b + 3);
     Node {
         height: links / 4294967296,
         lo: numbers::words::get(mem, b),
-        split: numbers::words::get(mem, b + 1),
-        top: numbers::words::get(mem, b + 2),
-        low: numbers::words::get(mem, b + 3),
-        left: links / 65536 % 65536,
-        right: links % 65536,
+        top: numbers::words::get(mem, b + 1),
+        low: numbers::words::get(mem, b + 2),
+        place: links % 4294967296,
     }
 }
 
-// Writes the sums of n at place p; height and places stay.
-pub fn save_sums(mem: &mut [u8], p: usize, n: Node)
-    requires { ⌜ Within (now mem) p ⌝ }
-    ensures { λ _. ⌜ (now (mem .exit) ≡ sumsSaved (now (mem .entry)) p n) × Saved p (withSums n (nodeAt (now (mem .entry)) p)) (now (mem .entry)) (now (mem .exit)) ⌝ }
+// Writes the sums of n at seat s; height and place stay.
+pub fn save_sums(mem: &mut [u8], s: usize, n: Node)
+    requires { ⌜ Within (now mem) s ⌝ }
+    ensures { λ _. ⌜ (now (mem .exit) ≡ sumsSaved (now (mem .entry)) s n) × Saved s (withSums n (nodeAt (now (mem .entry)) s)) (now (mem .entry)) (now (mem .exit)) ⌝ }
 {
-    let b = NODE_WORDS * p + HEADER_WORDS;
+    let b = NODE_WORDS * s + BEFORE_SEATS;
     numbers::words::put(mem, b, n.lo);
-    numbers::words::put(mem, b + 1, n.split);
-    numbers::words::put(mem, b + 2, n.top);
-    numbers::words::put(mem, b + 3, n.low);
+    numbers::words::put(mem, b + 1, n.top);
+    numbers::words::put(mem, b + 2, n.low);
 }
 
-// Makes n the node at place p.
-pub fn save(mem: &mut [u8], p: usize, n: Node)
-    requires { ⌜ Within (now mem) p ⌝ }
+// Makes n the node at seat s.
+pub fn save(mem: &mut [u8], s: usize, n: Node)
+    requires { ⌜ Within (now mem) s ⌝ }
     requires { ⌜ Fits n ⌝ }
-    ensures { λ _. ⌜ Saved p n (now (mem .entry)) (now (mem .exit)) ⌝ }
+    ensures { λ _. ⌜ Saved s n (now (mem .entry)) (now (mem .exit)) ⌝ }
 {
-    save_sums(mem, p, n);
-    let b = NODE_WORDS * p + HEADER_WORDS;
-    numbers::words::put(mem, b + 4, n.height * 4294967296 + n.left * 65536 + n.right);
+    save_sums(mem, s, n);
+    let b = NODE_WORDS * s + BEFORE_SEATS;
+    numbers::words::put(mem, b + 3, n.height * 4294967296 + n.place);
+}
+
+// Makes the node at one seat that at another too.
+pub fn copy(mem: &mut [u8], from: usize, to: usize)
+    requires { ⌜ Within (now mem) from ⌝ }
+    requires { ⌜ Within (now mem) to ⌝ }
+    ensures { λ _. ⌜ Copied from to (now (mem .entry)) (now (mem .exit)) ⌝ }
+{
+    let n = load(mem, from);
+    save(mem, to, n);
 }
