@@ -1,17 +1,17 @@
 -- Insert, remove and set end of any tree, by the side that the key leads to, and what they come to in weight and height.
 -- No order and no balance is asked: the code in memory needs no more than these.
-use mathlib.Core.Path.{_≡_, refl, sym, _∙_}
-use mathlib.Core.Logic.{inl, inr, _≢_}
+use mathlib.Core.Path.{_≡_, refl, _∙_}
+use mathlib.Core.Logic.{inl, inr}
 use mathlib.Core.Bool.{Bool, true, false}
 use Prim.Native.Nat.{ℕ, _+_, _≤_, max}
 use native.Mathlib.Omega.{arith}
 use lib.Dec.{leb, ltb}
 use borrow.Author.Tests.{lt-ltb, le-ltb}
 use Rattle.numbers.specs.Case.{pick, case-le, case-eq}
-use Rattle.shape.specs.Tree.{Tree, leaf, node, place, height, lo, same, weight, uses, inners, Once}
-use Rattle.shape.specs.PlaceLaws.{same-self, same-other, inners-uses}
+use Rattle.shape.specs.Tree.{Tree, leaf, node, height, lo, same, weight, uses, Once}
+use Rattle.shape.specs.PlaceLaws.{same-self, same-other}
 use Rattle.shape.specs.Side.{over, near, far}
-use Rattle.shape.specs.Arrange.{balance, insert, less, remove, leafOf, orAbove, above, setEnd}
+use Rattle.shape.specs.Arrange.{balance, insert, less, remove, orAbove, above, setEnd}
 use Rattle.shape.specs.TurnLaws.{weight-balance, height-balance, weight-balance-on, height-balance-on}
 
 -- ---- the changes, with the side that the key leads to
@@ -22,9 +22,9 @@ module _ (k x : ℕ) (l r : Tree) (s : Bool) (es : s ≡ ltb k (lo r)) where
     | inr y ↦ let h : s ≡ true = es ∙ lt-ltb k (lo r) (y .0) in rw (y .1, h)
   ]
 
-  pub insert-side : (e p q : ℕ) → insert k e q (node x l r) ≡ balance x (near s (insert k e q (near s l r)) (far s l r)) (far s (insert k e q (near s l r)) (far s l r))
+  pub insert-side : (e q : ℕ) → insert k e q (node x l r) ≡ balance x (near s (insert k e q (near s l r)) (far s l r)) (far s (insert k e q (near s l r)) (far s l r))
   unfolding insert
-  insert-side e p q = leads _ _ ∙ go s
+  insert-side e q = leads _ _ ∙ go s
     where
       go : (c : Bool) → near c (balance x (insert k e q l) r) (balance x l (insert k e q r)) ≡ balance x (near c (insert k e q (near c l r)) (far c l r)) (far c (insert k e q (near c l r)) (far c l r))
       go true = refl
@@ -35,14 +35,6 @@ module _ (k x : ℕ) (l r : Tree) (s : Bool) (es : s ≡ ltb k (lo r)) where
   set-side f = leads _ _ ∙ go s
     where
       go : (c : Bool) → near c (node x (setEnd k f l) r) (node x l (setEnd k f r)) ≡ over c x (setEnd k f (near c l r)) (far c l r)
-      go true = refl
-      go false = refl
-
-  pub leaf-side : leafOf k (node x l r) ≡ leafOf k (near s l r)
-  unfolding leafOf
-  leaf-side = leads _ _ ∙ go s
-    where
-      go : (c : Bool) → near c (leafOf k l) (leafOf k r) ≡ leafOf k (near c l r)
       go true = refl
       go false = refl
 
@@ -63,9 +55,9 @@ module _ (k x : ℕ) (l r : Tree) (s : Bool) (es : s ≡ ltb k (lo r)) where
       go false = refl
 
 -- the side at a leaf
-pub insert-leaf : (k e p q x j f : ℕ) (s : Bool) → s ≡ ltb k j → insert k e q (leaf j f) ≡ over s q (leaf k e) (leaf j f)
+pub insert-leaf : (k e q j f : ℕ) (s : Bool) → s ≡ ltb k j → insert k e q (leaf j f) ≡ over s q (leaf k e) (leaf j f)
 unfolding insert
-insert-leaf e p q x j f s es = elim (case-le j k) [
+insert-leaf k e q j f s es = elim (case-le j k) [
   | inl y ↦ let h : s ≡ false = es ∙ le-ltb k j (y .0) in rw (y .1, h)
   | inr y ↦ let h : s ≡ true = es ∙ lt-ltb k j (y .0) in rw (y .1, h)
 ]
@@ -88,21 +80,21 @@ height-insert k e q (node x l r) = elim (case-le (lo r) k) [
   | inr y ↦ rw (y .1) (omega (arith, height-balance x (insert k e q l) r, height-insert k e q l))
 ]
 
--- a weight by places alone
-module _ (u v : ℕ → ℕ) (k : ℕ) where
+-- a weight by places, with the same c for each leaf
+module _ (c : ℕ) (v : ℕ → ℕ) (k : ℕ) where
   abbrev by : Tree → ℕ
-  by = weight (λ j e. u p) v
+  by = weight (λ j e. c) v
 
-  less-weight : (s : Bool) (x : ℕ) (t y : Tree) → (1 ≤ height t → by (remove k t) + u (leafOf k t) + v (above k t) ≡ by t)
-      → by (less s x t (remove k t) y) + u (leafOf k t) + v (orAbove x t (above k t)) ≡ v x + by t + by y
-  unfolding less leafOf orAbove
+  less-weight : (s : Bool) (x : ℕ) (t y : Tree) → (1 ≤ height t → by (remove k t) + c + v (above k t) ≡ by t)
+      → by (less s x t (remove k t) y) + c + v (orAbove x t (above k t)) ≡ v x + by t + by y
+  unfolding less orAbove
   less-weight s x (leaf j e) y h = omega arith
   less-weight s x (node p a b) y h =
-      let g : by (remove k (node p a b)) + u (leafOf k (node p a b)) + v (above k (node p a b)) ≡ by (node p a b) = h (omega arith) in
-      omega (arith, weight-balance-on (λ j e. u p) v s x (remove k (node p a b)) y)
+      let g : by (remove k (node p a b)) + c + v (above k (node p a b)) ≡ by (node p a b) = h (omega arith) in
+      omega (arith, weight-balance-on (λ j e. c) v s x (remove k (node p a b)) y)
 
-  pub weight-remove : (t : Tree) → 1 ≤ height t → by (remove k t) + u (leafOf k t) + v (above k t) ≡ by t
-  unfolding remove leafOf above
+  pub weight-remove : (t : Tree) → 1 ≤ height t → by (remove k t) + c + v (above k t) ≡ by t
+  unfolding remove above
   weight-remove (leaf j e) h = absurd (omega arith)
   weight-remove (node x l r) h = elim (case-le (lo r) k) [
     | inl y ↦ rw (y .1) (omega (arith, less-weight false x r l (weight-remove r)))
@@ -132,22 +124,7 @@ unfolding setEnd
 height-set k f (leaf j e) = refl
 height-set k f (node x l r) = elim (case-le (lo r) k) [ inl y ↦ rw (y .1) (omega (arith, height-set k f r)) | inr y ↦ rw (y .1) (omega (arith, height-set k f l)) ]
 
--- ---- the leaf that the key leads to, and what is above it
--- its place is used, and is no inner node's
-pub leaf-uses : (z k : ℕ) (t : Tree) → inners z t + same z (leafOf k t) ≤ uses z t
-unfolding leafOf
-leaf-uses z k (leaf j e) = omega arith
-leaf-uses z k (node x l r) = elim (case-le (lo r) k) [
-  | inl y ↦ rw (y .1) (omega (arith, leaf-uses z k r, inners-uses z l))
-  | inr y ↦ rw (y .1) (omega (arith, leaf-uses z k l, inners-uses z r))
-]
-
--- a child that is a leaf, and one that is not
-pub leaf-of-leaf : (k : ℕ) (t : Tree) → height t ≡ 0 → leafOf k t ≡ place t
-unfolding leafOf
-leaf-of-leaf k (leaf j e) h = refl
-leaf-of-leaf k (node p a b) h = absurd (omega arith)
-
+-- ---- what is above the leaf that the key leads to: of a child that is a leaf, and of one that is not
 pub above-leaf : (x y : ℕ) (t : Tree) → height t ≡ 0 → orAbove x t y ≡ x
 unfolding orAbove
 above-leaf x y (leaf j e) h = refl
@@ -168,12 +145,9 @@ unfolding less
 less-node s x (leaf j e) now y h = absurd (omega arith)
 less-node s x (node p a b) now y h = refl
 
--- two free places, different from each other, beside a tree that uses no place twice
-pub fresh-once : (t : Tree) (p q : ℕ) → Once t → uses p t ≡ 0 → uses q t ≡ 0 → p ≢ q → (z : ℕ) → uses z t + same z p + same z q ≤ 1
-fresh-once t p q o fp fq d z = elim (case-eq z p) [
-  | inl y ↦ rw (y .0) (omega (arith, fp, same-self p, same-other p q d))
-  | inr y ↦ elim (case-eq z q) [
-    | inl x ↦ rw (x .0) (omega (arith, fq, same-self q, same-other q p (λ e. d (sym e))))
-    | inr x ↦ omega (arith, o z, same-other z p (y .0), same-other z q (x .0))
-  ]
+-- a free place, beside a tree that uses no place twice
+pub fresh-once : (t : Tree) (q : ℕ) → Once t → uses q t ≡ 0 → (z : ℕ) → uses z t + same z q ≤ 1
+fresh-once t q o f z = elim (case-eq z q) [
+  | inl y ↦ rw (y .0) (omega (arith, f, same-self q))
+  | inr y ↦ omega (arith, o z, same-other z q (y .0))
 ]

@@ -38,17 +38,17 @@ more s p l r u b h M =
 
 inserted : (k e q : ℕ) (t : Tree) → Balanced t → More t (insert k e q t)
 unfolding insert
-inserted k e p q (leaf j f) b = elim (case-le j k) [
+inserted k e q (leaf j f) b = elim (case-le j k) [
   | inl y ↦ rw (y .1) (record { even = (tt, tt, omega arith, omega arith); tall = omega arith })
   | inr y ↦ rw (y .1) (record { even = (tt, tt, omega arith, omega arith); tall = omega arith })
 ]
-inserted k e p q (node x l r) b = elim (case-le (lo r) k) [
-  | inl y ↦ rw (y .1) (more false x l r (insert k e q r) b (height-insert k e q r) (inserted k e p q r (b .1)))
-  | inr y ↦ rw (y .1) (more true x l r (insert k e q l) b (height-insert k e q l) (inserted k e p q l (b .0)))
+inserted k e q (node x l r) b = elim (case-le (lo r) k) [
+  | inl y ↦ rw (y .1) (more false x l r (insert k e q r) b (height-insert k e q r) (inserted k e q r (b .1)))
+  | inr y ↦ rw (y .1) (more true x l r (insert k e q l) b (height-insert k e q l) (inserted k e q l (b .0)))
 ]
 
 pub even-insert : (k e q : ℕ) (t : Tree) → Balanced t → Balanced (insert k e q t)
-even-insert k e q t b = inserted k e p q t b .even
+even-insert k e q t b = inserted k e q t b .even
 
 -- u is balanced, and by at most one lower than a tree of height h
 record FewerThan (h : ℕ) (u : Tree) : Type 0 where

@@ -24,7 +24,7 @@ last-ok : (a b f : ℕ) (t : Tree) → Ord a b t → f ≤ top t → Last f t (l
 last-ok a b f (leaf k e) o h = record { inside = (refl, refl); late = h; best = omega arith }
 last-ok a b f (node p l r) o h = elim (case-le f (top r)) [
   | inl y ↦ let R = last-ok (lo r) b f r (o .1) (y .0) in
-      let from : lo r ≤ (last f r) .key = in-ord (lo r) b r (o .1) _ _ _ (R .inside) .0 in
+      let from : lo r ≤ (last f r) .key = in-ord (lo r) b r (o .1) _ _ (R .inside) .0 in
       rw (y .1) (record {
         inside = inr (R .inside);
         late = R .late;
@@ -41,15 +41,15 @@ Right r f t (some k e) = In k e t × Fits (startOf k) e r f × All (λ j g. Fits
 module _ (a b r f p : ℕ) (x y : Tree) (o : Ord a b (node p x y)) where
   right-of-left : r < startOf (lo y) → (u : Out) → Right r f x u → Right r f (node p x y) u
   right-of-left h none i = (i, all-map (λ k e j. omega arith) y (ord-all (lo y) b y (o .1)))
-  right-of-left h (some k _) i = (inl (i .0), i .1, (i .2, all-map (λ k e j. omega arith) y (ord-all (lo y) b y (o .1))))
+  right-of-left h (some k e) i = (inl (i .0), i .1, (i .2, all-map (λ k e j. omega arith) y (ord-all (lo y) b y (o .1))))
 
   right-of-right : startOf (lo y) ≤ r → (u : Out) (n : ℕ) → Right r f y u → Right r f (node p x y) ((after (leb f (top x)) (last f x) u n) .out)
-  right-of-right h (some k _) n i =
-      let from : lo y ≤ k = in-ord (lo y) b y (o .1) _ _ _ (i .0) .0 in
+  right-of-right h (some k e) n i =
+      let from : lo y ≤ k = in-ord (lo y) b y (o .1) _ _ (i .0) .0 in
       (inr (i .0), i .1, (all-map (λ k e j. omega arith) x (ord-all a (lo y) x (o .0)), i .2))
   right-of-right h none n i = elim (case-le f (top x)) [
     | inl z ↦ let L = last-ok a (lo y) f x (o .0) (z .0) in
-        let to = in-ord a (lo y) x (o .0) _ _ _ (L .inside) .1 in
+        let to = in-ord a (lo y) x (o .0) _ _ (L .inside) .1 in
         rw (z .1) (inl (L .inside), (omega arith, L .late), (all-map (λ k e j g. j (g .1)) x (L .best), all-map (λ k e j g. absurd (j g)) y i))
     | inr z ↦ rw (z .1) (all-map (λ k e j. omega arith) x (top-all x), i)
   ]
@@ -109,7 +109,7 @@ find-visits r f t = go ((find r f t) .out) ((find r f t) .visits) (find-cost r f
 -- ---- it is the search of 01
 module _ (f : ℕ) where
   last-is : (x : Tree)
-      → (bottom f x ≡ some ((last f x) .place) ((last f x) .key) ((last f x) .end)) × (length (descended f x) ≡ (last f x) .count)
+      → (bottom f x ≡ some ((last f x) .key) ((last f x) .end)) × (length (descended f x) ≡ (last f x) .count)
   last-is (leaf k e) = (refl, refl)
   last-is (node p x y) = elim (case-le f (top y)) [
     | inl z ↦ rw (z .1) (last-is y .0, omega (arith, last-is y .1))

@@ -1,4 +1,4 @@
--- What `insert k e p q t` comes to: the leaf is put in its place, under the new node q, and order and balance are kept.
+-- What `insert k e q t` comes to: the leaf is put in its place, under the new node q, and order and balance are kept.
 use mathlib.Core.Path.{_≡_, sym}
 use mathlib.Core.Logic.{inl, inr, _≢_}
 use mathlib.Core.List.{[], _∷_}
@@ -15,7 +15,7 @@ use Rattle.shape.specs.Arrange.{balance, insert}
 use Rattle.shape.specs.BalanceLaws.{balance-over}
 use Rattle.shape.specs.ListLaws.{put, put-past, put-before, lo-put, ord-put}
 
--- u is t, ordered from a on and below b, with the leaf p k e and the inner place q besides
+-- u is t, ordered from a on and below b, with the leaf k e and the inner place q besides
 pub record Inserted (a b q k e : ℕ) (t u : Tree) : Type 1 where
   pub list : leaves u ≡ put (k, e) (leaves t)
   pub first : lo u ≡ min (lo t) k
@@ -28,12 +28,12 @@ pub record Inserted (a b q k e : ℕ) (t u : Tree) : Type 1 where
   pub tall : height t ≤ height u
   pub high : height u ≤ height t + 1
 
-module _ (left : Bool) (a b q k e x : ℕ) (from : a ≤ k) (to : k < b) where
+module _ (left : Bool) (a b q k e : ℕ) (from : a ≤ k) (to : k < b) where
   -- beside a leaf
   beside-leaf : (j f : ℕ) → Ord a b (leaf j f) → j ≢ k
       → joined left ((k, e) ∷ []) ((j, f) ∷ []) ≡ put (k, e) ((j, f) ∷ [])
       → Inserted a b q k e (leaf j f) (over left q (leaf k e) (leaf j f))
-  beside-leaf f o n puts =
+  beside-leaf j f o n puts =
       let u = over left q (leaf k e) (leaf j f) in
       let L : leaves u ≡ put (k, e) ((j, f) ∷ []) = rw leaves-over puts in
       record {
@@ -50,11 +50,11 @@ module _ (left : Bool) (a b q k e x : ℕ) (from : a ≤ k) (to : k < b) where
       }
 
   -- below a node x, into its child t on the side named
-  below : (c d : ℕ) (t s u : Tree) → Ord a b (over left x t s) → All (λ j f. j ≢ k) (over left x t s) → Balanced s
+  below : (x c d : ℕ) (t s u : Tree) → Ord a b (over left x t s) → All (λ j f. j ≢ k) (over left x t s) → Balanced s
       → height t ≤ height s + 1 → height s ≤ height t + 1
       → put (k, e) (joined left (leaves t) (leaves s)) ≡ joined left (put (k, e) (leaves t)) (leaves s)
       → Inserted c d q k e t u → Inserted a b q k e (over left x t s) (balance x (near left u s) (far left u s))
-  below c d t s u o n S h i puts U =
+  below x c d t s u o n S h i puts U =
       let B = balance-over left x u s (U .even) S (omega arith) (omega arith) in
       let z = balance x (near left u s) (far left u s) in
       let L : leaves z ≡ put (k, e) (leaves (over left x t s)) = rw (B .list, U .list, leaves-over) (sym puts) in
@@ -75,14 +75,14 @@ pub insert-ok : (a b q k e : ℕ) (t : Tree) → Ord a b t → Balanced t → a 
     → Inserted a b q k e t (insert k e q t)
 unfolding insert
 insert-ok a b q k e (leaf j f) o h u v n = elim (case-le j k) [
-  | inl z ↦ rw (z .1) (beside-leaf a b q k e x u v j f o n (rw (z .1)))
-  | inr z ↦ rw (z .1) (beside-leaf a b q k e x u v j f o n (rw (z .1)))
+  | inl z ↦ rw (z .1) (beside-leaf false a b q k e u v j f o n (rw (z .1)))
+  | inr z ↦ rw (z .1) (beside-leaf true a b q k e u v j f o n (rw (z .1)))
 ]
 insert-ok a b q k e (node x l r) o h u v n = elim (case-le (lo r) k) [
-  | inl z ↦ rw (z .1) (below false a b q k e x u v (lo r) b r l (insert k e q r) o n (h .0) (h .3) (h .2)
+  | inl z ↦ rw (z .1) (below false a b q k e u v x (lo r) b r l (insert k e q r) o n (h .0) (h .3) (h .2)
       (put-past (k, e) l (leaves r) (all-map (λ k e i. omega arith) l (ord-all a (lo r) l (o .0))))
       (insert-ok (lo r) b q k e r (o .1) (h .1) (z .0) v (n .1)))
-  | inr z ↦ rw (z .1) (below true a b q k e x u v a (lo r) l r (insert k e q l) o n (h .1) (h .2) (h .3)
+  | inr z ↦ rw (z .1) (below true a b q k e u v x a (lo r) l r (insert k e q l) o n (h .1) (h .2) (h .3)
       (put-before (k, e) (leaves l) r (z .0))
       (insert-ok a (lo r) q k e l (o .0) (h .0) u (z .0) (n .0)))
 ]

@@ -3,7 +3,7 @@
 use mathlib.Core.Path.{_≡_, refl, sym, _∙_}
 use mathlib.Core.Logic.{inl, inr}
 use mathlib.Core.Bool.{Bool, true, false}
-use mathlib.Core.List.{List, [], _∷_, _++_}
+use mathlib.Core.List.{List, [], _++_}
 use Prim.Native.Nat.{ℕ, _+_, _*_, _≤_, _<_, max}
 use native.Mathlib.Omega.{arith}
 use Rattle.numbers.specs.Case.{case-le}
@@ -92,7 +92,7 @@ clear-none b (node x l r) h = elim (case-le b (low (node x l r))) [ inl z ↦ rw
 
 pub freed-none : (b : ℕ) (t : Tree) → b ≤ low t → freed b t ≡ []
 unfolding freed
-freed-none b (leaf k e) h = elim (case-le b e) [ inl z ↦ rw (z .1) | inr z ↦ absurd (omega arith) ]
+freed-none b (leaf k e) h = refl
 freed-none b (node x l r) h = elim (case-le b (low (node x l r))) [ inl z ↦ rw (z .1) | inr z ↦ absurd (omega arith) ]
 
 -- else a node's sides are cleared
@@ -106,8 +106,9 @@ freed-sides b x l r h = elim (case-le b (low (node x l r))) [ inl z ↦ absurd (
 
 pub clear-leaf : (b k e : ℕ) → e < b → clear b (leaf k e) ≡ gone
 unfolding clear
-clear-leaf p k e h = elim (case-le b e) [ inl z ↦ absurd (omega arith) | inr z ↦ rw (z .1) ]
+clear-leaf b k e h = elim (case-le b e) [ inl z ↦ absurd (omega arith) | inr z ↦ rw (z .1) ]
 
-pub freed-leaf : (b k e : ℕ) → e < b → freed b (leaf k e) ≡ p ∷ []
+-- a leaf has no place to give
+pub freed-leaf : (b k e : ℕ) → freed b (leaf k e) ≡ []
 unfolding freed
-freed-leaf p k e h = elim (case-le b e) [ inl z ↦ absurd (omega arith) | inr z ↦ rw (z .1) ]
+freed-leaf b k e = refl

@@ -63,6 +63,6 @@ size-weight (leaf k e) = refl
 size-weight (node q l r) = omega (arith, size-weight l, size-weight r)
 
 -- ---- how often a place is used
--- no more often than in the whole
+-- a node's own place is used
 pub uses-place : (q : ℕ) (l r : Tree) → 1 ≤ uses q (node q l r)
 uses-place q l r = omega (arith, same-self q)

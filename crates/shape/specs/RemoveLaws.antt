@@ -1,6 +1,6 @@
 -- What `remove k t` comes to, of a tree with more than one leaf: the leaf and the node above it go, and order and
 -- balance are kept.
-use mathlib.Core.Path.{_≡_, sym, _∙_}
+use mathlib.Core.Path.{_≡_, sym}
 use mathlib.Core.Logic.{inl, inr, _≢_}
 use mathlib.Core.List.{[], _∷_}
 use mathlib.Core.Bool.{Bool, true, false}
@@ -12,16 +12,15 @@ use Rattle.shape.specs.TreeLaws.{all-others, in-right, in-left, size-som
 use Rattle.shape.specs.PlaceLaws.{size-weight}
 use Rattle.shape.specs.Side.{over, near, far}
 use Rattle.shape.specs.SideLaws.{joined-nil, leaves-over, height-over, weight-over, all-over}
-use Rattle.shape.specs.Arrange.{balance, less, remove, leafOf, orAbove, above}
+use Rattle.shape.specs.Arrange.{balance, less, remove, orAbove, above}
 use Rattle.shape.specs.BalanceLaws.{balance-over}
 use Rattle.shape.specs.ListLaws.{cut, instead-joined, instead-one, ord-instead}
 use Rattle.shape.specs.LeadLaws.{Leads, leads-right, leads-left}
 
--- u is t, ordered from a on and below b, without the leaf p k e and the inner place above it
+-- u is t, ordered from a on and below b, without the leaf k e and the inner place above it
 pub record Removed (a b k e : ℕ) (t u : Tree) : Type 1 where
   pub list : leaves u ≡ cut k (leaves t)
   pub weigh : (w : (k e : ℕ) → ℕ) (v : ℕ → ℕ) → weight w v t ≡ w k e + v (above k t) + weight w v u
-  pub spot : leafOf k t ≡ p
   pub all : (P : (k e : ℕ) → Type 0) → All (λ j f. j ≢ k → P j f) t → All P u
   pub ord : Ord a b u
   pub even : Balanced u
@@ -34,18 +33,17 @@ ord-cut a b k t u q o = ord-instead k (λ x. []) (λ x. omega arith) a b t u q o
 -- at a node x over t and s, t on the side named, to which the key leads
 module _ (left : Bool) (a b k e x : ℕ) where
   -- a leaf goes, and x with it
-  leaf-gone : (q j f : ℕ) (s : Tree) → Ord a b (over left x (leaf j f) s) → Balanced s → height s ≤ 1
+  leaf-gone : (j f : ℕ) (s : Tree) → Ord a b (over left x (leaf j f) s) → Balanced s → height s ≤ 1
       → Leads left k x (leaf j f) s → In k e (leaf j f) → Removed a b k e (over left x (leaf j f) s) s
-  unfolding leafOf orAbove
-  leaf-gone q j f s o S h d i =
+  unfolding orAbove
+  leaf-gone j f s o S h d i =
       let t = over left x (leaf j f) s in
-      let one : cut k ((j, f) ∷ []) ≡ [] = rw (← i .1) (instead-one k (λ x. []) q f) in
+      let one : cut k ((j, f) ∷ []) ≡ [] = rw (← i .0) (instead-one k (λ x. []) f) in
       let L : leaves s ≡ cut k (leaves t) =
       rw (leaves-over, instead-joined k (λ x. []) left ((j, f) ∷ []) s (d .beside), one) (sym (joined-nil left (leaves s))) in
       record {
         list = L;
-        weigh = λ w v. rw (d .knot, weight-over, i .0, i .1, i .2) (omega arith);
-        spot = d .spot ∙ sym (i .0);
+        weigh = λ w v. rw (d .knot, weight-over, i .0, i .1) (omega arith);
         all = λ P c. all-others P k s (d .beside) (all-over left x (leaf j f) s _ c .1);
         ord = ord-cut a b k t s L o;
         even = S;
@@ -67,7 +65,6 @@ module _ (left : Bool) (a b k e x : ℕ) where
       record {
         list = L;
         weigh = λ w v. rw (D .knot) (omega (arith, U .weigh w v, B .weigh w v, weight-over left x t s w v));
-        spot = D .spot ∙ U .spot;
         all = λ P v. let A = all-over left x t s _ v in B .all P (U .all P (A .0)) (all-others P k s (D .beside) (A .1));
         ord = ord-cut a b k (over left x t s) z L o;
         even = B .even;
@@ -78,7 +75,7 @@ module _ (left : Bool) (a b k e x : ℕ) where
 removed-side : (left : Bool) (a b c d k e x : ℕ) (t s u : Tree) → Ord a b (over left x t s) → Balanced s → height t ≤ height s + 1 → height s ≤ height t + 1
     → Leads left k x t s → In k e t → (2 ≤ size t → Removed c d k e t u) → Removed a b k e (over left x t s) (less left x t u s)
 unfolding less
-removed-side left a b c d k e x (leaf j f) s u o S m n D i R = leaf-gone left a b k e x q j f s o S (omega arith) D i
+removed-side left a b c d k e x (leaf j f) s u o S m n D i R = leaf-gone left a b k e x j f s o S (omega arith) D i
 removed-side left a b c d k e x (node y g h) s u o S m n D i R =
     below left a b k e x c d y g h s u o S m n D (R (omega (arith, size-some g, size-some h)))
 
@@ -89,7 +86,7 @@ remove-ok a b k e (node x l r) o h i n = elim (case-le (lo r) k) [
   | inl y ↦ let j = in-right a b k e x l r o (y .0) i in
       rw (y .1) (removed-side false a b (lo r) b k e x r l (remove k r) o (h .0) (h .3) (h .2) (leads-right a b k x l r o y) j (remove-ok (lo r) b k e r (o .1) (h .1) j))
   | inr y ↦ let j = in-left a b k e x l r o (y .0) i in
-      rw (y .1) (removed-side true a b a (lo r) p k e x l r (remove k l) o (h .1) (h .2) (h .3) (leads-left a b k x l r o y) j (remove-ok a (lo r) p k e l (o .0) (h .0) j))
+      rw (y .1) (removed-side true a b a (lo r) k e x l r (remove k l) o (h .1) (h .2) (h .3) (leads-left a b k x l r o y) j (remove-ok a (lo r) k e l (o .0) (h .0) j))
 ]
 
 -- one leaf less

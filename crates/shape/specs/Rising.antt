@@ -9,12 +9,12 @@ use Rattle.shape.specs.Tree.{Tree, leaf, node, lo, Ord, Item, leaves}
 -- the keys of a list rise, from a on and below b
 abbrev pub Rising : (a b : ℕ) → List Item → Type 0
 Rising a b [] = a ≤ b
-Rising a b (x ∷ xs) = (a ≤ x .1) × Rising (x .1 + 1) b xs
+Rising a b (x ∷ xs) = (a ≤ x .0) × Rising (x .0 + 1) b xs
 
 pub rising-append : (a b c : ℕ) (xs ys : List Item) → Rising a b xs → Rising b c ys → Rising a c (xs ++ ys)
 rising-append a b c [] [] h i = omega arith
 rising-append a b c [] (y ∷ ys) h i = (omega arith, i .1)
-rising-append a b c (x ∷ xs) ys h i = (h .0, rising-append (x .1 + 1) b c xs ys (h .1) i)
+rising-append a b c (x ∷ xs) ys h i = (h .0, rising-append (x .0 + 1) b c xs ys (h .1) i)
 
 pub rising-from : (a b c : ℕ) (xs : List Item) → b ≤ a → Rising a c xs → Rising b c xs
 rising-from a b c [] h i = omega arith
@@ -27,7 +27,7 @@ ord-rising a b (node m l r) o = rising-append a (lo r) b (leaves l) (leaves r) (
 -- ---- the least key is the first item's, or the default's where there is none
 abbrev pub first : ℕ → List Item → ℕ
 first d [] = d
-first d (x ∷ xs) = x .1
+first d (x ∷ xs) = x .0
 
 first-append : (d : ℕ) (xs ys : List Item) → first d (xs ++ ys) ≡ first (first d ys) xs
 first-append d [] ys = refl
@@ -45,12 +45,12 @@ lo-list t u q = rw (lo-first 0 t, lo-first 0 u, q)
 rising-left : (a b : ℕ) (xs ys : List Item) → Rising a b (xs ++ ys) → Rising a (first b ys) xs
 rising-left a b [] [] h = h
 rising-left a b [] (y ∷ ys) h = h .0
-rising-left a b (x ∷ xs) ys h = (h .0, rising-left (x .1 + 1) b xs ys (h .1))
+rising-left a b (x ∷ xs) ys h = (h .0, rising-left (x .0 + 1) b xs ys (h .1))
 
 rising-right : (a b : ℕ) (xs ys : List Item) → Rising a b (xs ++ ys) → Rising (first b ys) b ys
 rising-right a b [] [] h = omega arith
 rising-right a b [] (y ∷ ys) h = (omega arith, h .1)
-rising-right a b (x ∷ xs) ys h = rising-right (x .1 + 1) b xs ys (h .1)
+rising-right a b (x ∷ xs) ys h = rising-right (x .0 + 1) b xs ys (h .1)
 
 pub rising-ord : (a b : ℕ) (t : Tree) → Rising a b (leaves t) → Ord a b t
 rising-ord a b (leaf k e) h = omega arith

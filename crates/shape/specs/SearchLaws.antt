@@ -30,16 +30,16 @@ module _ (a b r f : ℕ) (t : Tree) (o : Ord a b t) where
 
   -- in the rule's words
   pub search-taken : (k e : ℕ) → (published r f t) .out ≡ some k e → MinSV (VoidsIn t) r f (channelOf k) (startOf k) e
-  search-taken p k e q =
+  search-taken k e q =
       let R = search-some k e q in
       record {
-        void = record { place = p; key = k; inside = R .0; channel = refl; start = refl };
+        void = record { key = k; inside = R .0; channel = refl; start = refl };
         fits = R .1;
-        best = λ c s g v h. rw (← v .channel, ← v .start) (key-order (v .key) k (R .2 (v .place) (v .key) g (v .inside) (rw (v .start) h)));
+        best = λ c s g v h. rw (← v .channel, ← v .start) (key-order (v .key) k (R .2 (v .key) g (v .inside) (rw (v .start) h)));
       }
 
   pub search-nothing : (published r f t) .out ≡ none → NoFit (VoidsIn t) r f
-  search-nothing q = λ c s e v h. search-none q (v .place) (v .key) e (v .inside) (rw (v .start) h)
+  search-nothing q = λ c s e v h. search-none q (v .key) e (v .inside) (rw (v .start) h)
 
 -- ---- its visits
 pub search-visits : (r f : ℕ) (t : Tree) → (published r f t) .visits ≤ 4 * height t + 1

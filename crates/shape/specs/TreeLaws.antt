@@ -1,6 +1,6 @@
 -- The leaves of a tree: what holds of all of them, the bounds of their keys and ends, and on which side of a node a leaf is.
 -- Every later law about a leaf goes by these.
-use mathlib.Core.Path.{_≡_, refl, sym, subst₃}
+use mathlib.Core.Path.{_≡_, refl, sym, subst₂}
 use mathlib.Core.Logic.{_⊎_, inl, inr, _≢_}
 use Prim.Native.Nat.{ℕ, _≤_, _<_}
 use native.Mathlib.Omega.{arith}
@@ -13,9 +13,9 @@ all-map f (leaf k e) h = f k e h
 all-map f (node q l r) h = (all-map f l (h .0), all-map f r (h .1))
 
 pub all-in : (P : (k e : ℕ) → Type 0) (t : Tree) → All P t → (k e : ℕ) → In k e t → P k e
-all-in P (leaf k e) h p′ k′ e′ i = subst₃ P (sym (i .0)) (sym (i .1)) (sym (i .2)) h
-all-in P (node q l r) h p k e (inl i) = all-in P l (h .0) p k e i
-all-in P (node q l r) h p k e (inr i) = all-in P r (h .1) p k e i
+all-in P (leaf k e) h k′ e′ i = subst₂ P (sym (i .0)) (sym (i .1)) h
+all-in P (node q l r) h k e (inl i) = all-in P l (h .0) k e i
+all-in P (node q l r) h k e (inr i) = all-in P r (h .1) k e i
 
 pub all-of : (P : (k e : ℕ) → Type 0) (t : Tree) → ((k e : ℕ) → In k e t → P k e) → All P t
 all-of P (leaf k e) f = f k e (refl, refl)
@@ -58,19 +58,19 @@ tight a b (node q l r) o = (tight a (lo r) l (o .0), o .1)
 -- on which side of a node a leaf is
 module _ (a b k e q : ℕ) (l r : Tree) (o : Ord a b (node q l r)) where
   pub in-right : lo r ≤ k → In k e (node q l r) → In k e r
-  in-right g (inl i) = absurd (omega (arith, in-ord a (lo r) l (o .0) p k e i))
+  in-right g (inl i) = absurd (omega (arith, in-ord a (lo r) l (o .0) k e i))
   in-right g (inr i) = i
 
   pub in-left : k < lo r → In k e (node q l r) → In k e l
   in-left g (inl i) = i
-  in-left g (inr i) = absurd (omega (arith, in-ord (lo r) b r (o .1) p k e i))
+  in-left g (inr i) = absurd (omega (arith, in-ord (lo r) b r (o .1) k e i))
 
 -- a key has one leaf
-pub same-key : (a b : ℕ) (t : Tree) → Ord a b t → (k e e′ : ℕ) → In k e t → In k e′ t → (p ≡ p′) × (e ≡ e′)
-same-key a b (leaf g f) o p k e p′ e′ i j = omega arith
-same-key a b (node q l r) o p k e p′ e′ i j = elim (case-le (lo r) k) [
-  | inl y ↦ same-key (lo r) b r (o .1) p k e p′ e′ (in-right a b k e q l r o (y .0) i) (in-right a b p′ k e′ q l r o (y .0) j)
-  | inr y ↦ same-key a (lo r) l (o .0) p k e p′ e′ (in-left a b k e q l r o (y .0) i) (in-left a b p′ k e′ q l r o (y .0) j)
+pub same-key : (a b : ℕ) (t : Tree) → Ord a b t → (k e e′ : ℕ) → In k e t → In k e′ t → e ≡ e′
+same-key a b (leaf g f) o k e e′ i j = omega arith
+same-key a b (node q l r) o k e e′ i j = elim (case-le (lo r) k) [
+  | inl y ↦ same-key (lo r) b r (o .1) k e e′ (in-right a b k e q l r o (y .0) i) (in-right a b k e′ q l r o (y .0) j)
+  | inr y ↦ same-key a (lo r) l (o .0) k e e′ (in-left a b k e q l r o (y .0) i) (in-left a b k e′ q l r o (y .0) j)
 ]
 
 -- ---- the ends

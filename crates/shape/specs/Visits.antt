@@ -66,7 +66,7 @@ bottom f (node p x y) = pick (leb f (top y)) (bottom f y) (bottom f x)
 
 -- "C: zero if the leaf reached fits, or if nothing is marked"
 abbrev pub descent : (f : ℕ) → Out → Deepest → Result
-descent f (some k e) m = record { out = some p k e; visits = 0 }
+descent f (some k e) m = record { out = some k e; visits = 0 }
 descent f none unmarked = record { out = none; visits = 0 }
 descent f none (marked x) = record { out = bottom f x; visits = length (descended f x) }
 

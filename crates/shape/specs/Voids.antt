@@ -6,7 +6,6 @@ use Rattle.shape.specs.Tree.{Tree, In}
 
 -- a leaf of t is the void of channel c from s up to e
 pub record VoidsIn (t : Tree) (c s e : ℕ) : Type 0 where
-  pub place : ℕ
   pub key : ℕ
   pub inside : In key e t
   pub channel : channelOf key ≡ c

@@ -22,7 +22,7 @@ use Rattle.state.specs.State.{State, with-tree, shorten, add, drop, with
 -- ---- the search over the starts tried, in their order, with its count
 pub data Sought : Type 0 where
   nowhere : Sought
-  found : (line start place key end : ℕ) → Sought
+  found : (line start key end : ℕ) → Sought
 
 pub record Seeking : Type 0 where
   pub out : Sought
@@ -30,7 +30,7 @@ pub record Seeking : Type 0 where
 
 -- at a start: "Trying stops at the first start that has a fit"; "An order's count is the sum over the start times tried"
 abbrev pub tryNext : Start → Out → (visits : ℕ) → Seeking → Seeking
-tryNext x (some p k e) n y = record { out = found (x .line) (x .moment) p k e; count = n }
+tryNext x (some k e) n y = record { out = found (x .line) (x .moment) k e; count = n }
 tryNext x none n y = record { out = y .out; count = n + y .count }
 
 -- h: the ticks for which the burst holds its channel
@@ -42,7 +42,7 @@ seek t h (x ∷ xs) =
 
 abbrev pub choice : Sought → Choice
 choice nowhere = nothing
-choice (found i r p k e) = taken i r (channelOf k) (startOf k) e
+choice (found i r k e) = taken i r (channelOf k) (startOf k) e
 
 -- ---- the void of the key, which ends at e, gives the time from r up to f: its pieces in front and behind, if they are kept
 unfoldable pub split : State → (k e r f : ℕ) → State
@@ -62,7 +62,7 @@ refusal s code = record { reply = refused code; count = 0; after = s }
 
 -- what is found is booked, unless it is refused
 abbrev pub carried : State → (h : ℕ) → Reply → Sought → State
-carried s h (booked c i r f) (found i′ r′ p k e) = split s k e r′ (free r′ h)
+carried s h (booked c i r f) (found i′ r′ k e) = split s k e r′ (free r′ h)
 carried s h (booked c i r f) nowhere = s
 carried s h (swept d) x = s
 carried s h (refused code) x = s
@@ -79,7 +79,7 @@ bookAs (suc x) s r l m = refusal s (suc x)
 -- ---- a sweep: the voids that end too early go, all at once
 -- how many they are
 abbrev pub toDrop : (moment : ℕ) → Tree → ℕ
-toDrop moment t = weight (λ p k e. pick (stays moment e) 0 1) (λ q. 0) t
+toDrop moment t = weight (λ k e. pick (stays moment e) 0 1) (λ q. 0) t
 
 -- (a link always keeps a void)
 abbrev pub leftOf : Tree → Rest → Tree

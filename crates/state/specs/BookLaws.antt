@@ -12,7 +12,7 @@ use Rattle.rule.specs.Key.{keyOf, startOf, channelOf, start-of-key, channel-of-
 use Rattle.shape.specs.Tree.{size, In, All}
 use Rattle.shape.specs.TreeLaws.{all-map, all-of}
 use Rattle.state.specs.Room.{Room}
-use Rattle.state.specs.State.{State, first}
+use Rattle.state.specs.State.{State}
 use Rattle.state.specs.Places.{Placed}
 use Rattle.state.specs.Cover.{cov, cover}
 use Rattle.state.specs.TickLaws.{on-yes, on-past, cov-no, cov-empty, cov-split}
@@ -21,38 +21,38 @@ use Rattle.state.specs.Bordered.{Bordered, Kept}
 use Rattle.state.specs.LongestLaws.{longest-same, bordered, leaf-longest}
 use Rattle.state.specs.OpenEndLaws.{another}
 use Rattle.state.specs.KeptLaws.{case-kept, kept-is, kept-not, pick-most}
-use Rattle.state.specs.PlaceLaws.{two-spare}
+use Rattle.state.specs.PlaceLaws.{one-spare}
 use Rattle.state.specs.SplitLaws.{Split}
 
 -- what is not kept of a piece is past
-piece-cov : (floor c t p k e s : ℕ) → s ≡ startOf k → least floor ≤ suc t → pick (kept floor s e) (cov c t p k e) 0 ≡ cov c t p k e
-piece-cov floor c t p k e s q h = elim (case-kept floor s e) [ inl y ↦ rw (y .1) | inr y ↦ rw (y .1) (none (y .0)) ]
+piece-cov : (floor c t k e s : ℕ) → s ≡ startOf k → least floor ≤ suc t → pick (kept floor s e) (cov c t k e) 0 ≡ cov c t k e
+piece-cov floor c t k e s q h = elim (case-kept floor s e) [ inl y ↦ rw (y .1) | inr y ↦ rw (y .1) (none (y .0)) ]
   where
-    none : (e ≤ s) ⊎ (e < least floor) → 0 ≡ cov c t p k e
-    none (inl z) = sym (cov-empty c t p k e (omega arith))
-    none (inr z) = sym (cov-no c t p k e (omega arith))
+    none : (e ≤ s) ⊎ (e < least floor) → 0 ≡ cov c t k e
+    none (inl z) = sym (cov-empty c t k e (omega arith))
+    none (inr z) = sym (cov-no c t k e (omega arith))
 
-module _ (F₀ C : ℕ) (H : ℕ → ℕ → ℕ) (s : State) (p k e r f : ℕ) (K : Kept F₀ (least (s .floor)) (least (s .floor)) C H (s .tree)) (i : In p k e (s .tree))
+module _ (F₀ C : ℕ) (H : ℕ → ℕ → ℕ) (s : State) (k e r f : ℕ) (K : Kept F₀ (least (s .floor)) (least (s .floor)) C H (s .tree)) (i : In k e (s .tree))
     (fits : Fits (startOf k) e r f) (long : r < f) (early : f ≤ lastMoment) where
   v : Bordered F₀ (least (s .floor)) C H k e
-  v = bordered F₀ (least (s .floor)) (least (s .floor)) C H (s .tree) K p k e i
+  v = bordered F₀ (least (s .floor)) (least (s .floor)) C H (s .tree) K k e i
 
   -- no other void of the channel starts where the time booked ends: this one holds that tick
-  clear : f < e → All (λ p j g. j ≢ keyOf f (channelOf k)) (s .tree)
-  clear n = all-of _ (s .tree) (λ p′ j g i′ q.
+  clear : f < e → All (λ j g. j ≢ keyOf f (channelOf k)) (s .tree)
+  clear n = all-of _ (s .tree) (λ j g i′ q.
       let L = leaf-longest F₀ (least (s .floor)) (least (s .floor)) C H (s .tree) K in
       let c : channelOf j ≡ channelOf k = omega arith in
       let b : startOf j ≡ f = omega arith in
-      let A : Longest F₀ H (channelOf k) f g = rw (← c, ← b) (L p′ j g i′) in
-      absurd (omega (arith, longest-same F₀ H (channelOf k) f g (startOf k) e f A (L p k e i) (omega arith) (A .some) (omega arith) n)))
+      let A : Longest F₀ H (channelOf k) f g = rw (← c, ← b) (L j g i′) in
+      absurd (omega (arith, longest-same F₀ H (channelOf k) f g (startOf k) e f A (L k e i) (omega arith) (A .some) (omega arith) n)))
 
   -- a split has what it asks for, unless the room is full and both pieces are kept
   pub room : Placed s → size (s .tree) ≤ s .settings .room → least (s .floor) ≤ openEnd → F₀ ≤ lastMoment
       → (kept (s .floor) (startOf k) r ≡ true → kept (s .floor) f e ≡ true → size (s .tree) < s .settings .room) → Room s k e r f
   room P w g h n = record {
-    spare = two-spare s P w;
+    spare = one-spare s P w;
     less = n;
-    another = λ y z. another F₀ (least (s .floor)) (least (s .floor)) C H (s .tree) K g h p k e i (omega (arith, whole (kept-not (s .floor) f e z)));
+    another = λ y z. another F₀ (least (s .floor)) (least (s .floor)) C H (s .tree) K g h k e i (omega (arith, whole (kept-not (s .floor) f e z)));
     key = λ z. omega (arith, kept-is (s .floor) f e z .0, v .most);
     clear = λ z. clear (kept-is (s .floor) f e z .0);
   }
@@ -61,10 +61,7 @@ module _ (F₀ C : ℕ) (H : ℕ → ℕ → ℕ) (s : State) (p k e r f : ℕ) 
       whole (inl y) = y
       whole (inr y) = absurd (omega (arith, v .stay))
 
-  module _ (z : State) (S : Split s p k e r f z) where
-    abbrev q : ℕ
-    q = first (s .spares)
-
+  module _ (z : State) (S : Split s k e r f z) where
     abbrev d : ℕ
     d = channelOf k
 
@@ -72,18 +69,18 @@ module _ (F₀ C : ℕ) (H : ℕ → ℕ → ℕ) (s : State) (p k e r f : ℕ) 
     cover-le c t = omega (
       arith,
       S .weigh (cov c t),
-      pick-most (kept (s .floor) (startOf k) r) (cov c t p k r),
-      pick-most (kept (s .floor) f e) (cov c t q (keyOf f d) e),
-      cov-split c t p k e q r f (fits .0) (omega arith) (fits .1),
+      pick-most (kept (s .floor) (startOf k) r) (cov c t k r),
+      pick-most (kept (s .floor) f e) (cov c t (keyOf f d) e),
+      cov-split c t k e r f (fits .0) (omega arith) (fits .1),
     )
 
     cover-is : (c t : ℕ) → least (s .floor) ≤ suc t → cover (z .tree) c t + on c t d r f ≡ cover (s .tree) c t
     cover-is c t n = omega (
       arith,
       S .weigh (cov c t),
-      piece-cov (s .floor) c t p k r (startOf k) refl n,
-      piece-cov (s .floor) c t q (keyOf f d) e f (sym (start-of-key f d)) n,
-      cov-split c t p k e q r f (fits .0) (omega arith) (fits .1),
+      piece-cov (s .floor) c t k r (startOf k) refl n,
+      piece-cov (s .floor) c t (keyOf f d) e f (sym (start-of-key f d)) n,
+      cov-split c t k e r f (fits .0) (omega arith) (fits .1),
     )
 
     abbrev H′ : ℕ → ℕ → ℕ
@@ -132,5 +129,5 @@ module _ (F₀ C : ℕ) (H : ℕ → ℕ → ℕ) (s : State) (p k e r f : ℕ) 
       once = λ c t a. omega (arith, K .once c t a, cover-le c t);
       full = λ c t a b b′ b″. omega (arith, K .full c t a b b′ b″, cover-is c t b′);
       last = λ c a. omega (arith, K .last c a, on-past c lastMoment d r f early);
-      edges = S .all (λ p k e. Bordered F₀ (least (s .floor)) C H′ k e) in-front behind (all-map (λ p k e b n. wider k e b) (s .tree) (K .edges));
+      edges = S .all (λ k e. Bordered F₀ (least (s .floor)) C H′ k e) in-front behind (all-map (λ k e b n. wider k e b) (s .tree) (K .edges));
     }

@@ -27,4 +27,4 @@ pub record Kept (F₀ F G C : ℕ) (H : ℕ → ℕ → ℕ) (t : Tree) : Type 0
   pub once : (c s : ℕ) → c < C → H c s + cover t c s ≤ 1
   pub full : (c s : ℕ) → c < C → F₀ ≤ s → F ≤ suc s → s < openEnd → 1 ≤ H c s + cover t c s
   pub last : (c : ℕ) → c < C → H c lastMoment ≡ 0
-  pub edges : All (λ p k e. Bordered F₀ G C H k e) t
+  pub edges : All (λ k e. Bordered F₀ G C H k e) t

@@ -3,7 +3,7 @@
 use mathlib.Core.Path.{_≡_, refl, sym, ap, ap₂, _∙_}
 use mathlib.Core.Logic.{_⊎_, inl, inr}
 use mathlib.Core.List.{List, [], _∷_, _++_, append-nil}
-use Prim.Native.Nat.{ℕ, suc, _+_, _*_, _≤_, _<_}
+use Prim.Native.Nat.{ℕ, suc, _+_, _≤_, _<_}
 use native.Mathlib.Omega.{arith}
 use lib.Dec.{leb}
 use lib.ListN.{length, length-append}
@@ -22,45 +22,45 @@ abbrev pub leavesOf : Rest → List Item
 leavesOf gone = []
 leavesOf (rest u) = leaves u
 
-abbrev pub weightOf : ((p k e : ℕ) → ℕ) → (ℕ → ℕ) → Rest → ℕ
+abbrev pub weightOf : ((k e : ℕ) → ℕ) → (ℕ → ℕ) → Rest → ℕ
 weightOf w v gone = 0
 weightOf w v (rest u) = weight w v u
 
-abbrev pub AllOf : ((p k e : ℕ) → Type 0) → Rest → Type 0
+abbrev pub AllOf : ((k e : ℕ) → Type 0) → Rest → Type 0
 AllOf P gone = Unit {0}
 AllOf P (rest u) = All P u
 
-abbrev pub InOf : (p k e : ℕ) → Rest → Type 0
-InOf p k e gone = ⊥
-InOf p k e (rest u) = In p k e u
+abbrev pub InOf : (k e : ℕ) → Rest → Type 0
+InOf k e gone = ⊥
+InOf k e (rest u) = In k e u
 
 -- balanced, and no higher than h
 abbrev pub EvenOf : (h : ℕ) → Rest → Type 0
 EvenOf h gone = Unit {0}
 EvenOf h (rest u) = Balanced u × (height u ≤ h)
 
--- twice the leaves, less the one place that a tree has fewer
-abbrev pub twiceOf : Rest → ℕ
-twiceOf gone = 1
-twiceOf (rest u) = 2 * size u
+-- one more than its places: the leaves of a tree, and 1 where nothing is left
+abbrev pub countOf : Rest → ℕ
+countOf gone = 1
+countOf (rest u) = size u
 
 -- ---- the items that end at b or later
 abbrev pub staying : (b : ℕ) → List Item → List Item
 staying b [] = []
-staying b (x ∷ xs) = pick (leb b (x .2)) (x ∷ staying b xs) (staying b xs)
+staying b (x ∷ xs) = pick (leb b (x .1)) (x ∷ staying b xs) (staying b xs)
 
 staying-append : (b : ℕ) (xs ys : List Item) → staying b (xs ++ ys) ≡ staying b xs ++ staying b ys
 staying-append b [] ys = refl
-staying-append b (x ∷ xs) ys = elim (case-le b (x .2)) [
+staying-append b (x ∷ xs) ys = elim (case-le b (x .1)) [
   | inl z ↦ rw (z .1) (ap (λ zs. x ∷ zs) (staying-append b xs ys))
   | inr z ↦ rw (z .1) (staying-append b xs ys)
 ]
 
 rising-staying : (a c b : ℕ) (xs : List Item) → Rising a c xs → Rising a c (staying b xs)
 rising-staying a c b [] h = h
-rising-staying a c b (x ∷ xs) h = elim (case-le b (x .2)) [
-  | inl z ↦ rw (z .1) (h .0, rising-staying (x .1 + 1) c b xs (h .1))
-  | inr z ↦ rw (z .1) (rising-from (x .1 + 1) a c (staying b xs) (omega (arith, h .0)) (rising-staying (x .1 + 1) c b xs (h .1)))
+rising-staying a c b (x ∷ xs) h = elim (case-le b (x .1)) [
+  | inl z ↦ rw (z .1) (h .0, rising-staying (x .0 + 1) c b xs (h .1))
+  | inr z ↦ rw (z .1) (rising-from (x .0 + 1) a c (staying b xs) (omega (arith, h .0)) (rising-staying (x .0 + 1) c b xs (h .1)))
 ]
 
 pub among-append : (z : ℕ) (ps qs : List ℕ) → among z (ps ++ qs) ≡ among z ps + among z qs
@@ -71,16 +71,16 @@ among-append z (p ∷ ps) qs = omega (arith, among-append z ps qs)
 -- r is left of t, cleared at b, and the places ps come free
 pub record Cleared (b : ℕ) (t : Tree) (r : Rest) (ps : List ℕ) : Type 1 where
   pub list : leavesOf r ≡ staying b (leaves t)
-  pub lost : (w : (p k e : ℕ) → ℕ) → weightOf w (λ q. 0) r + weight (λ p k e. pick (leb b e) 0 (w p k e)) (λ q. 0) t ≡ weight w (λ q. 0) t
-  pub all : (P : (p k e : ℕ) → Type 0) → All (λ p k e. b ≤ e → P p k e) t → AllOf P r
+  pub lost : (w : (k e : ℕ) → ℕ) → weightOf w (λ q. 0) r + weight (λ k e. pick (leb b e) 0 (w k e)) (λ q. 0) t ≡ weight w (λ q. 0) t
+  pub all : (P : (k e : ℕ) → Type 0) → All (λ k e. b ≤ e → P k e) t → AllOf P r
   pub even : EvenOf (height t) r
-  pub places : (z : ℕ) → uses z t ≡ weightOf (λ p k e. same z p) (same z) r + among z ps
-  pub many : length ps + twiceOf r ≡ 2 * size t
+  pub places : (z : ℕ) → uses z t ≡ weightOf (λ k e. 0) (same z) r + among z ps
+  pub many : length ps + countOf r ≡ size t
 
 module _ (b : ℕ) where
-  cleared-leaf : (p k e : ℕ) → Cleared b (leaf p k e) (clear b (leaf p k e)) (freed b (leaf p k e))
+  cleared-leaf : (k e : ℕ) → Cleared b (leaf k e) (clear b (leaf k e)) (freed b (leaf k e))
   unfolding clear freed
-  cleared-leaf p k e = elim (case-le b e) [
+  cleared-leaf k e = elim (case-le b e) [
     | inl z ↦ rw (z .1) (record {
       list = rw (z .1);
       lost = λ w. rw (z .1) (omega arith);
@@ -100,21 +100,21 @@ module _ (b : ℕ) where
   ]
 
   -- nothing in it ends too early
-  staying-all : (t : Tree) → All (λ p k e. b ≤ e) t → leaves t ≡ staying b (leaves t)
-  staying-all (leaf p k e) h = elim (case-le b e) [ inl z ↦ rw (z .1) | inr z ↦ absurd (omega (arith, h, z .0)) ]
+  staying-all : (t : Tree) → All (λ k e. b ≤ e) t → leaves t ≡ staying b (leaves t)
+  staying-all (leaf k e) h = elim (case-le b e) [ inl z ↦ rw (z .1) | inr z ↦ absurd (omega (arith, h, z .0)) ]
   staying-all (node x l r) h = rw (staying-append b (leaves l) (leaves r)) (ap₂ _++_ (staying-all l (h .0)) (staying-all r (h .1)))
 
-  pub none-lost : (w : (p k e : ℕ) → ℕ) (t : Tree) → All (λ p k e. b ≤ e) t → weight (λ p k e. pick (leb b e) 0 (w p k e)) (λ q. 0) t ≡ 0
-  none-lost w (leaf p k e) h = elim (case-le b e) [ inl z ↦ rw (z .1) | inr z ↦ absurd (omega (arith, h, z .0)) ]
+  pub none-lost : (w : (k e : ℕ) → ℕ) (t : Tree) → All (λ k e. b ≤ e) t → weight (λ k e. pick (leb b e) 0 (w k e)) (λ q. 0) t ≡ 0
+  none-lost w (leaf k e) h = elim (case-le b e) [ inl z ↦ rw (z .1) | inr z ↦ absurd (omega (arith, h, z .0)) ]
   none-lost w (node x l r) h = omega (arith, none-lost w l (h .0), none-lost w r (h .1))
 
-  all-both : (P : (p k e : ℕ) → Type 0) (t : Tree) → All (λ p k e. b ≤ e) t → All (λ p k e. b ≤ e → P p k e) t → All P t
-  all-both P (leaf p k e) h a = a h
+  all-both : (P : (k e : ℕ) → Type 0) (t : Tree) → All (λ k e. b ≤ e) t → All (λ k e. b ≤ e → P k e) t → All P t
+  all-both P (leaf k e) h a = a h
   all-both P (node x l r) h a = (all-both P l (h .0) (a .0), all-both P r (h .1) (a .1))
 
   untouched : (t : Tree) → Balanced t → b ≤ low t → Cleared b t (rest t) []
   untouched t B h =
-      let A = all-map {Q = λ p k e. b ≤ e} (λ p k e i. omega (arith, i, h)) t (low-all t) in
+      let A = all-map {Q = λ k e. b ≤ e} (λ k e i. omega (arith, i, h)) t (low-all t) in
       record {
         list = staying-all t A;
         lost = λ w. omega (arith, none-lost w t A);
@@ -137,13 +137,13 @@ module _ (b : ℕ) where
     joins n (rest u) gone = 0
     joins n (rest u) (rest v) = n x
 
-    meet-weight : (w : (p k e : ℕ) → ℕ) (n : ℕ → ℕ) (p q : Rest) → EvenOf (height l) p → EvenOf (height r) q
+    meet-weight : (w : (k e : ℕ) → ℕ) (n : ℕ → ℕ) (p q : Rest) → EvenOf (height l) p → EvenOf (height r) q
         → weightOf w n (meet x p q) ≡ weightOf w n p + weightOf w n q + joins n p q
     meet-weight w n gone q P Q = omega arith
     meet-weight w n (rest u) gone P Q = omega arith
     meet-weight w n (rest u) (rest v) P Q = omega (arith, join-ok x u v (P .0) (Q .0) .weigh w n)
 
-    meet-all : (P : (p k e : ℕ) → Type 0) (p q : Rest) → EvenOf (height l) p → EvenOf (height r) q → AllOf P p → AllOf P q → AllOf P (meet x p q)
+    meet-all : (P : (k e : ℕ) → Type 0) (p q : Rest) → EvenOf (height l) p → EvenOf (height r) q → AllOf P p → AllOf P q → AllOf P (meet x p q)
     meet-all P gone q E F a c = c
     meet-all P (rest u) gone E F a c = a
     meet-all P (rest u) (rest v) E F a c = join-ok x u v (E .0) (F .0) .all P a c
@@ -159,13 +159,13 @@ module _ (b : ℕ) where
     meet-places z (rest u) gone = omega arith
     meet-places z (rest u) (rest v) = omega arith
 
-    meet-twice : (p q : Rest) → EvenOf (height l) p → EvenOf (height r) q → length (unused x p q) + twiceOf (meet x p q) ≡ twiceOf p + twiceOf q
-    meet-twice gone gone P Q = refl
-    meet-twice gone (rest v) P Q = omega arith
-    meet-twice (rest u) gone P Q = omega arith
-    meet-twice (rest u) (rest v) P Q =
+    meet-count : (p q : Rest) → EvenOf (height l) p → EvenOf (height r) q → length (unused x p q) + countOf (meet x p q) ≡ countOf p + countOf q
+    meet-count gone gone P Q = refl
+    meet-count gone (rest v) P Q = omega arith
+    meet-count (rest u) gone P Q = omega arith
+    meet-count (rest u) (rest v) P Q =
         let J = join-ok x u v (P .0) (Q .0) in
-        omega (arith, J .weigh (λ p k e. 1) (λ q. 0), size-weight u, size-weight v, size-weight (join x u v))
+        omega (arith, J .weigh (λ k e. 1) (λ q. 0), size-weight u, size-weight v, size-weight (join x u v))
 
     met : (p q : Rest) (ps qs : List ℕ) → Cleared b l p ps → Cleared b r q qs → Cleared b (node x l r) (meet x p q) (unused x p q ++ (qs ++ ps))
     met p q ps qs L R =
@@ -178,14 +178,14 @@ module _ (b : ℕ) where
           even = meet-even p q E F;
           places = λ z. omega (
             arith,
-            meet-weight (λ p k e. same z p) (same z) p q E F,
+            meet-weight (λ k e. 0) (same z) p q E F,
             meet-places z p q,
             L .places z,
             R .places z,
             among-append z (unused x p q) (qs ++ ps),
             among-append z qs ps,
           );
-          many = omega (arith, meet-twice p q E F, L .many, R .many, length-append (unused x p q) (qs ++ ps), length-append qs ps);
+          many = omega (arith, meet-count p q E F, L .many, R .many, length-append (unused x p q) (qs ++ ps), length-append qs ps);
         }
       where
         no-joins : (p q : Rest) → joins (λ q. 0) p q ≡ 0
@@ -195,7 +195,7 @@ module _ (b : ℕ) where
 
   pub clear-ok : (t : Tree) → Balanced t → Cleared b t (clear b t) (freed b t)
   unfolding clear freed
-  clear-ok (leaf p k e) B = cleared-leaf p k e
+  clear-ok (leaf k e) B = cleared-leaf k e
   clear-ok (node x l r) B = elim (case-le b (low (node x l r))) [
     | inl z ↦ rw (z .1) (untouched (node x l r) B (z .0))
     | inr z ↦ rw (z .1) (met x l r (clear b l) (clear b r) (freed b l) (freed b r) (clear-ok l (B .0)) (clear-ok r (B .1)))
@@ -203,43 +203,43 @@ module _ (b : ℕ) where
 
 -- ---- what follows
 -- a weight that is 0 for all that ends too early loses nothing
-pub lost-none : (b : ℕ) (w : (p k e : ℕ) → ℕ) → ((p k e : ℕ) → e < b → w p k e ≡ 0) → (t : Tree) → weight (λ p k e. pick (leb b e) 0 (w p k e)) (λ q. 0) t ≡ 0
-lost-none b w f (leaf p k e) = elim (case-le b e) [ inl z ↦ rw (z .1) | inr z ↦ rw (z .1) (f p k e (z .0)) ]
+pub lost-none : (b : ℕ) (w : (k e : ℕ) → ℕ) → ((k e : ℕ) → e < b → w k e ≡ 0) → (t : Tree) → weight (λ k e. pick (leb b e) 0 (w k e)) (λ q. 0) t ≡ 0
+lost-none b w f (leaf k e) = elim (case-le b e) [ inl z ↦ rw (z .1) | inr z ↦ rw (z .1) (f k e (z .0)) ]
 lost-none b w f (node x l r) = omega (arith, lost-none b w f l, lost-none b w f r)
 
 module _ (b : ℕ) (t : Tree) (r : Rest) (ps : List ℕ) (C : Cleared b t r ps) where
   -- what ends late enough is left
-  pub stays-in : (p k e : ℕ) → In p k e t → b ≤ e → InOf p k e r
-  stays-in p k e i h = go r (C .lost (mark p k e))
+  pub stays-in : (k e : ℕ) → In k e t → b ≤ e → InOf k e r
+  stays-in k e i h = go r (C .lost (mark k e))
     where
-      none : weight (λ p′ k′ e′. pick (leb b e′) 0 (mark p k e p′ k′ e′)) (λ q. 0) t ≡ 0
-      none = lost-none b (mark p k e) (λ p′ k′ e′ j. elim (case-le 1 (mark p k e p′ k′ e′)) [
-        | inl z ↦ absurd (omega (arith, mark-is p k e p′ k′ e′ (z .0), j, h))
+      none : weight (λ k′ e′. pick (leb b e′) 0 (mark k e k′ e′)) (λ q. 0) t ≡ 0
+      none = lost-none b (mark k e) (λ k′ e′ j. elim (case-le 1 (mark k e k′ e′)) [
+        | inl z ↦ absurd (omega (arith, mark-is k e k′ e′ (z .0), j, h))
         | inr z ↦ omega (arith, z .0)
       ]) t
 
-      go : (r : Rest) → weightOf (mark p k e) (λ q. 0) r + weight (λ p′ k′ e′. pick (leb b e′) 0 (mark p k e p′ k′ e′)) (λ q. 0) t ≡ weight (mark p k e) (λ q. 0) t → InOf p k e r
-      go gone q = absurd (omega (arith, q, none, in-mark t p k e i))
-      go (rest u) q = mark-in u p k e (omega (arith, q, none, in-mark t p k e i))
+      go : (r : Rest) → weightOf (mark k e) (λ q. 0) r + weight (λ k′ e′. pick (leb b e′) 0 (mark k e k′ e′)) (λ q. 0) t ≡ weight (mark k e) (λ q. 0) t → InOf k e r
+      go gone q = absurd (omega (arith, q, none, in-mark t k e i))
+      go (rest u) q = mark-in u k e (omega (arith, q, none, in-mark t k e i))
 
 -- what is left, where a leaf ends late enough
-pub left-some : (b : ℕ) (t : Tree) (p k e : ℕ) → Balanced t → In p k e t → b ≤ e → (u : Tree) × (clear b t ≡ rest u) × Cleared b t (rest u) (freed b t)
-left-some b t p k e B i h = go (clear b t) refl (clear-ok b t B)
+pub left-some : (b : ℕ) (t : Tree) (k e : ℕ) → Balanced t → In k e t → b ≤ e → (u : Tree) × (clear b t ≡ rest u) × Cleared b t (rest u) (freed b t)
+left-some b t k e B i h = go (clear b t) refl (clear-ok b t B)
   where
     go : (r : Rest) → clear b t ≡ r → Cleared b t r (freed b t) → (u : Tree) × (clear b t ≡ rest u) × Cleared b t (rest u) (freed b t)
-    go gone q C = absurd (stays-in b t gone (freed b t) C p k e i h)
+    go gone q C = absurd (stays-in b t gone (freed b t) C k e i h)
     go (rest u) q C = (u, q, C)
 
 module _ (b : ℕ) (t u : Tree) (ps : List ℕ) (C : Cleared b t (rest u) ps) where
   pub left-ordered : (a c : ℕ) → Ord a c t → Ord a c u
   left-ordered a c o = rising-ord a c u (rw (C .list) (rising-staying a c b (leaves t) (ord-rising a c t o)))
 
-  pub left-late : All (λ p k e. b ≤ e) u
-  left-late = C .all (λ p k e. b ≤ e) (all-of _ t (λ p k e i h. h))
+  pub left-late : All (λ k e. b ≤ e) u
+  left-late = C .all (λ k e. b ≤ e) (all-of _ t (λ k e i h. h))
 
   -- no weight has grown, and one that is 0 for all that ends too early is as it was
-  pub left-less : (w : (p k e : ℕ) → ℕ) → weight w (λ q. 0) u ≤ weight w (λ q. 0) t
+  pub left-less : (w : (k e : ℕ) → ℕ) → weight w (λ q. 0) u ≤ weight w (λ q. 0) t
   left-less w = omega (arith, C .lost w)
 
-  pub left-same : (w : (p k e : ℕ) → ℕ) → ((p k e : ℕ) → e < b → w p k e ≡ 0) → weight w (λ q. 0) u ≡ weight w (λ q. 0) t
+  pub left-same : (w : (k e : ℕ) → ℕ) → ((k e : ℕ) → e < b → w k e ≡ 0) → weight w (λ q. 0) u ≡ weight w (λ q. 0) t
   left-same w f = omega (arith, C .lost w, lost-none b w f t)

@@ -37,7 +37,7 @@ visitsOf t h (x ∷ xs) = (published (x .moment) (free (x .moment) h) t) .visits
 -- the starts tried by the search: up to the first where it ends at a leaf
 abbrev pub upTo : Start → Out → List Start → List Start
 upTo x none ys = x ∷ ys
-upTo x (some p k e) ys = x ∷ []
+upTo x (some k e) ys = x ∷ []
 
 abbrev pub triedBy : Tree → (h : ℕ) → List Start → List Start
 triedBy t h [] = []

@@ -56,8 +56,8 @@ module _ (a b : ℕ) (t : Tree) (o : Ord a b t) (B : Balanced t) (h : ℕ) where
         sum = rw q (omega (arith, d .sum));
         bound = λ w z. rw q (omega (arith, search-bound r f t w B z, d .bound w z, suc-mul (length (triedBy t h xs)) (8 * w + 1)));
       }
-      go d (some p k e) q =
-          let m = search-taken a b r f t o p k e q in
+      go d (some k e) q =
+          let m = search-taken a b r f t o k e q in
           record {
             tried = rw q (refl, inl (record { channel = channelOf k; start = startOf k; end = e; void = m .void; fits = m .fits }, refl));
             sum = rw q (omega arith);

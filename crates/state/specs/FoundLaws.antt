@@ -75,7 +75,7 @@ starts-fair floor r h m ds a b = ((a, b), delayed-fair floor r h m 0 ds a)
 -- ---- what is found was found at one of the starts
 abbrev pub Found : Tree → (h : ℕ) → (ℕ → Type 0) → Sought → Type 0
 Found t h P nowhere = Unit {0}
-Found t h P (found i r p k e) = P r × ((published r (free r h) t) .out ≡ some p k e)
+Found t h P (found i r k e) = P r × ((published r (free r h) t) .out ≡ some k e)
 
 seek-found : (t : Tree) (h : ℕ) (P : ℕ → Type 0) (xs : List Start) → AllStarts P xs → Found t h P ((seek t h xs) .out)
 seek-found t h P [] a = tt
@@ -83,7 +83,7 @@ seek-found t h P (x ∷ xs) a = go (seek-found t h P xs (a .1)) ((published (x .
   where
     go : Found t h P ((seek t h xs) .out) → (w : Out) → (published (x .moment) (free (x .moment) h) t) .out ≡ w → Found t h P ((seek t h (x ∷ xs)) .out)
     go d none q = rw q d
-    go d (some p k e) q = rw q (a .0, q)
+    go d (some k e) q = rw q (a .0, q)
 
 -- what a booking finds that the codes 3 to 6 let go on
 pub booking-found : (g : Settings) (floor : ℕ) (t : Tree) (r l m : ℕ) → bookingCode g floor r l m ≡ 0

@@ -67,11 +67,11 @@ module _ (g : Settings) (F : ℕ) (q : inBounds g ≡ true) (h : F ≤ lastMomen
     once = λ c s a. omega (arith, cover-one 0 _ c s t (W .ordered) (W .apart));
     full = λ c s a b d e.
         let o = W .openEnds c a in
-        omega (arith, cover-in t c s (o .place) (o .key) openEnd (o .inside) (o .channel) (omega (arith, all-in _ t (fresh-wide g F q h) (o .place) (o .key) openEnd (o .inside))) e);
+        omega (arith, cover-in t c s (o .key) openEnd (o .inside) (o .channel) (omega (arith, all-in _ t (fresh-wide g F q h) (o .key) openEnd (o .inside))) e);
     last = λ c a. refl;
-    edges = all-of (λ p k e. Bordered F (least ((fresh g F) .floor)) ((fresh g F) .settings .channels) (λ c s. 0) k e) t (λ p k e i.
-        let l = all-in _ t (W .lawful) p k e i in
-        let w = all-in _ t (fresh-wide g F q h) p k e i in
+    edges = all-of (λ k e. Bordered F (least ((fresh g F) .floor)) ((fresh g F) .settings .channels) (λ c s. 0) k e) t (λ k e i.
+        let l = all-in _ t (W .lawful) k e i in
+        let w = all-in _ t (fresh-wide g F q h) k e i in
         record { some = l .some; since = omega arith; most = l .most; stay = stays-least ((fresh g F) .floor) e .0 (l .stay); channel = l .channel; stops = inl (w .1); starts = inl (w .0) });
   }
 

@@ -33,46 +33,46 @@ module _ (F₀ floor : ℕ) (g : Settings) (H : ℕ → ℕ → ℕ) (s : State)
   least-open = omega (arith, least-most (s .floor), L .floor)
 
   -- ---- a booking: the void found has room to be split, and is split
-  module _ (h : ℕ) (long : 1 ≤ h) (b p k e : ℕ) (fair : Fair (s .floor) h b) (q : (published b (free b h) (s .tree)) .out ≡ some p k e)
+  module _ (h : ℕ) (long : 1 ≤ h) (b k e : ℕ) (fair : Fair (s .floor) h b) (q : (published b (free b h) (s .tree)) .out ≡ some k e)
       (less : kept (s .floor) (startOf k) b ≡ true → kept (s .floor) (free b h) e ≡ true → size (s .tree) < s .settings .room) where
     pub found-room : Room s k e b (free b h)
     found-room =
-        let a = search-some 0 mostKey b (free b h) (s .tree) (L .kept .ordered) p k e q in
-        room F₀ (g .channels) H s p k e b (free b h) (L .kept) (a .0) (a .1) (omega arith) (fair .1) (L .placed) (L .within) least-open early less
+        let a = search-some 0 mostKey b (free b h) (s .tree) (L .kept .ordered) k e q in
+        room F₀ (g .channels) H s k e b (free b h) (L .kept) (a .0) (a .1) (omega arith) (fair .1) (L .placed) (L .within) least-open early less
 
-    pub found-split : Split s p k e b (free b h) (split s k e b (free b h))
+    pub found-split : Split s k e b (free b h) (split s k e b (free b h))
     found-split =
-        let a = search-some 0 mostKey b (free b h) (s .tree) (L .kept .ordered) p k e q in
-        split-ok s p k e b (free b h) (L .kept .ordered) (L .kept .balanced) (a .0) (omega (arith, a .1)) found-room
+        let a = search-some 0 mostKey b (free b h) (s .tree) (L .kept .ordered) k e q in
+        split-ok s k e b (free b h) (L .kept .ordered) (L .kept .balanced) (a .0) (omega (arith, a .1)) found-room
 
   module _ (l : ℕ) (long : 1 ≤ hold (s .settings) l) (r m : ℕ) where
     abbrev After : Reply → State → Type 0
     After y z = Lives F₀ floor g (holds (s .settings) (booking r l m) y H) z
 
-    split-lives : (i b p k e : ℕ) → Fair (s .floor) (hold (s .settings) l) b → (published b (free b (hold (s .settings) l)) (s .tree)) .out ≡ some p k e
+    split-lives : (i b k e : ℕ) → Fair (s .floor) (hold (s .settings) l) b → (published b (free b (hold (s .settings) l)) (s .tree)) .out ≡ some k e
         → (kept (s .floor) (startOf k) b ≡ true → kept (s .floor) (free b (hold (s .settings) l)) e ≡ true → size (s .tree) < s .settings .room)
         → After (booked (channelOf k) i b (b + l)) (split s k e b (free b (hold (s .settings) l)))
-    split-lives i b p k e fair q less =
+    split-lives i b k e fair q less =
         let f = free b (hold (s .settings) l) in
-        let a = search-some 0 mostKey b f (s .tree) (L .kept .ordered) p k e q in
-        let S = found-split (hold (s .settings) l) long b p k e fair q less in
+        let a = search-some 0 mostKey b f (s .tree) (L .kept .ordered) k e q in
+        let S = found-split (hold (s .settings) l) long b k e fair q less in
         let z = split s k e b f in
-        let K = book-kept F₀ (g .channels) H s p k e b f (L .kept) (a .0) (a .1) (omega arith) (fair .1) z S in
+        let K = book-kept F₀ (g .channels) H s k e b f (L .kept) (a .0) (a .1) (omega arith) (fair .1) z S in
         subst (λ x. After (booked (channelOf k) i b (b + l)) x) (sym (S .is)) (record {
           kept = K;
           settings = L .settings;
           level = L .level;
           floor = L .floor;
           placed = subst Placed (S .is) (S .placed (L .placed));
-          within = split-within s p k e b f z S (found-room (hold (s .settings) l) long b p k e fair q less) (L .within);
+          within = split-within s k e b f z S (found-room (hold (s .settings) l) long b k e fair q less) (L .within);
         })
 
     found-lives : (o : Sought) (n : ℕ) → Found (s .tree) (hold (s .settings) l) (Fair (s .floor) (hold (s .settings) l)) o
         → let y = bookFound s l (record { out = o; count = n }) in After (y .reply) (y .after)
     found-lives nowhere n a = L
-    found-lives (found i b p k e) n a = elim (case-full (s .settings) (s .floor) (size (s .tree)) b (free b (hold (s .settings) l)) (startOf k) e) [
+    found-lives (found i b k e) n a = elim (case-full (s .settings) (s .floor) (size (s .tree)) b (free b (hold (s .settings) l)) (startOf k) e) [
       | inl y ↦ rw (y .1) L
-      | inr y ↦ rw (y .1) (split-lives i b p k e (a .0) (a .1) (y .0))
+      | inr y ↦ rw (y .1) (split-lives i b k e (a .0) (a .1) (y .0))
     ]
 
   book-lives : (r l m : ℕ) → let y = act s (booking r l m) in Lives F₀ floor g (holds (s .settings) (booking r l m) (y .reply) H) (y .after)

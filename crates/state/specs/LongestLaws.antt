@@ -31,12 +31,12 @@ longest-same F H c s e s′ e′ t A B h i h′ i′ = (begins, ends)
     ]
 
 module _ (F₀ F G C : ℕ) (H : ℕ → ℕ → ℕ) (t : Tree) (K : Kept F₀ F G C H t) where
-  pub bordered : (p k e : ℕ) → In p k e t → Bordered F₀ G C H k e
+  pub bordered : (k e : ℕ) → In k e t → Bordered F₀ G C H k e
   bordered = all-in _ t (K .edges)
 
-  pub leaf-longest : (p k e : ℕ) → In p k e t → Longest F₀ H (channelOf k) (startOf k) e
-  leaf-longest p k e m =
-      let v = bordered p k e m in
+  pub leaf-longest : (k e : ℕ) → In k e t → Longest F₀ H (channelOf k) (startOf k) e
+  leaf-longest k e m =
+      let v = bordered k e m in
       let stop : (e ≡ openEnd) ⊎ (1 ≤ H (channelOf k) e) → ¬ (Idle F₀ H (channelOf k) e) = elim [ inl a ↦ λ i. omega arith | inr a ↦ λ i. omega arith ] in
       let start : (startOf k ≡ F₀) ⊎ (1 ≤ H (channelOf k) (startOf k - 1)) → (s : ℕ) → suc s ≡ startOf k → ¬ (Idle F₀ H (channelOf k) s) = elim [
         | inl a ↦ λ s q i. omega arith
@@ -44,7 +44,7 @@ module _ (F₀ F G C : ℕ) (H : ℕ → ℕ → ℕ) (t : Tree) (K : Kept F₀ 
       ] in
       record {
         some = v .some;
-        idle = λ s a b. (omega (arith, v .since), omega (arith, v .most), omega (arith, K .once (channelOf k) s (v .channel), cover-in t (channelOf k) s p k e m refl a b));
+        idle = λ s a b. (omega (arith, v .since), omega (arith, v .most), omega (arith, K .once (channelOf k) s (v .channel), cover-in t (channelOf k) s k e m refl a b));
         stops = stop (v .stops);
         starts = start (v .starts);
       }
@@ -52,9 +52,9 @@ module _ (F₀ F G C : ℕ) (H : ℕ → ℕ → ℕ) (t : Tree) (K : Kept F₀ 
   -- a stretch is the void that holds its last tick
   held-by : (c s e : ℕ) → Longest F₀ H c s e → Holds t c (e - 1) → VoidsIn t c s e
   held-by c s e S x =
-      let B : Longest F₀ H c (startOf (x .key)) (x .end) = rw (← x .channel) (leaf-longest (x .place) (x .key) (x .end) (x .inside)) in
+      let B : Longest F₀ H c (startOf (x .key)) (x .end) = rw (← x .channel) (leaf-longest (x .key) (x .end) (x .inside)) in
       let z = longest-same F₀ H c (startOf (x .key)) (x .end) s e (e - 1) B S (x .start) (x .before) (omega (arith, S .some)) (omega (arith, S .some)) in
-      record { place = x .place; key = x .key; inside = rw (← z .1) (x .inside); channel = x .channel; start = z .0 }
+      record { key = x .key; inside = rw (← z .1) (x .inside); channel = x .channel; start = z .0 }
 
   longest-leaf : (c s e : ℕ) → c < C → Longest F₀ H c s e → F ≤ e → VoidsIn t c s e
   longest-leaf c s e a S h =
@@ -68,5 +68,5 @@ kept-longest F₀ G C H t K c s e = (there, (λ x. longest-leaf F₀ G G C H t K
   where
     there : VoidsIn t c s e → (c < C) × Longest F₀ H c s e × (G ≤ e)
     there v =
-        let b = bordered F₀ G G C H t K (v .place) (v .key) e (v .inside) in
-        rw (← v .channel, ← v .start) (b .channel, leaf-longest F₀ G G C H t K (v .place) (v .key) e (v .inside), b .stay)
+        let b = bordered F₀ G G C H t K (v .key) e (v .inside) in
+        rw (← v .channel, ← v .start) (b .channel, leaf-longest F₀ G G C H t K (v .key) e (v .inside), b .stay)

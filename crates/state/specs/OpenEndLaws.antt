@@ -17,12 +17,12 @@ module _ (F₀ F G C : ℕ) (H : ℕ → ℕ → ℕ) (t : Tree) (K : Kept F₀ 
   pub open-end : (c : ℕ) → c < C → OpenEnd t c
   open-end c a =
       let x = cover-some t c lastMoment (omega (arith, K .full c lastMoment a z (omega arith) (omega arith), K .last c a)) in
-      let q : x .end ≡ openEnd = omega (arith, x .before, bordered F₀ F G C H t K (x .place) (x .key) (x .end) (x .inside) .most) in
-      record { place = x .place; key = x .key; inside = subst (λ e. In (x .place) (x .key) e t) q (x .inside); channel = x .channel }
+      let q : x .end ≡ openEnd = omega (arith, x .before, bordered F₀ F G C H t K (x .key) (x .end) (x .inside) .most) in
+      record { key = x .key; inside = subst (λ e. In (x .key) e t) q (x .inside); channel = x .channel }
 
   -- a void that ends before the open end is not the last one
-  pub another : (p k e : ℕ) → In p k e t → e ≤ lastMoment → 2 ≤ size t
-  another p k e i h =
-      let x = open-end (channelOf k) (bordered F₀ F G C H t K p k e i .channel) in
-      let n : k ≢ x .key = λ q. omega (arith, same-key 0 mostKey t (K .ordered) p k e (x .place) openEnd i (subst (λ j. In (x .place) j openEnd t) (sym q) (x .inside)) .1) in
-      two-leaves t p k e (x .place) (x .key) openEnd i (x .inside) n
+  pub another : (k e : ℕ) → In k e t → e ≤ lastMoment → 2 ≤ size t
+  another k e i h =
+      let x = open-end (channelOf k) (bordered F₀ F G C H t K k e i .channel) in
+      let n : k ≢ x .key = λ q. omega (arith, same-key 0 mostKey t (K .ordered) k e openEnd i (subst (λ j. In j openEnd t) (sym q) (x .inside))) in
+      two-leaves t k e (x .key) openEnd i (x .inside) n

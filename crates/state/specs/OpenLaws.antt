@@ -3,7 +3,7 @@
 use mathlib.Core.Path.{_≡_, refl, sym, _∙_, ap, subst}
 use mathlib.Core.Logic.{inl, inr, _↔_}
 use mathlib.Core.Bool.{true}
-use Prim.Native.Nat.{ℕ, zero, suc, _+_, _*_, _≤_, _<_}
+use Prim.Native.Nat.{ℕ, zero, suc, _+_, _≤_, _<_}
 use native.Mathlib.Omega.{arith}
 use lib.ListN.{length}
 use Rattle.numbers.specs.Case.{case-lt, case-eq}
@@ -30,9 +30,9 @@ pub record Opening (g : Settings) (floor c : ℕ) (s : State) : Type 0 where
   pub settings : s .settings ≡ with-channels g c
   pub level : s .floor ≡ floor
   pub many : size (s .tree) ≡ c
-  pub wide : All (λ p k e. (startOf k ≡ floor) × (e ≡ openEnd)) (s .tree)
+  pub wide : All (λ k e. (startOf k ≡ floor) × (e ≡ openEnd)) (s .tree)
 
--- ---- the places of the first channel: 0 in the tree, and the others spare
+-- ---- the places of the first channel: all spare
 below-next : (z p : ℕ) → same z p + below z p ≡ below z (p + 1)
 unfolding below
 below-next z p = elim (case-eq z p) [
@@ -62,10 +62,10 @@ below-none : (z : ℕ) → below z 0 ≡ 0
 unfolding below
 below-none z = elim (case-lt z 0) [ inl y ↦ absurd (omega arith) | inr y ↦ rw (y .1) ]
 
-single-all : (room z : ℕ) → same z 0 + among z (upFrom 1 (2 * room)) ≡ below z (places room)
+single-all : (room z : ℕ) → 0 + among z (upFrom 0 room) ≡ below z (places room)
 single-all room z =
-    let q : 0 + suc (2 * room) ≡ places room = omega arith in
-    omega (arith, rw q at (among-up z 0 (suc (2 * room))), below-none z)
+    let q : 0 + room ≡ places room = omega arith in
+    omega (arith, rw q at (among-up z 0 room), below-none z)
 
 module _ (g : Settings) (floor : ℕ) (q : inBounds g ≡ true) (h : floor ≤ lastMoment) where
   pub single-sound : Sound (single g floor)
@@ -75,10 +75,10 @@ module _ (g : Settings) (floor : ℕ) (q : inBounds g ≡ true) (h : floor ≤ l
     ordered = omega arith;
     balanced = tt;
     lawful = record { channel = omega arith; some = omega arith; most = omega arith; stay = stays-least floor openEnd .1 (omega (arith, least-most floor)) };
-    apart = λ p k e p′ k′ e′ i j c x. absurd (omega arith);
-    openEnds = λ c a. record { place = 0; key = keyOf floor 0; inside = (refl, refl, refl); channel = omega arith };
+    apart = λ k e k′ e′ i j c x. absurd (omega arith);
+    openEnds = λ c a. record { key = keyOf floor 0; inside = (refl, refl); channel = omega arith };
     all = single-all (g .room);
-    many = omega (arith, length-up 1 (2 * g .room));
+    many = omega (arith, length-up 0 (g .room));
     within = omega (arith, in-bounds g q .room .0, in-bounds g q .channels .0);
   }
 
@@ -99,7 +99,7 @@ module _ (g : Settings) (floor : ℕ) (q : inBounds g ≡ true) where
         settings = rw (O .settings);
         level = O .level;
         many = omega (arith, widen-size s (O .sound) b n, O .many);
-        wide = I .all (λ p k e. (startOf k ≡ floor) × (e ≡ openEnd)) (start-of-key (s .floor) (s .settings .channels) ∙ O .level, refl) (O .wide);
+        wide = I .all (λ k e. (startOf k ≡ floor) × (e ≡ openEnd)) (start-of-key (s .floor) (s .settings .channels) ∙ O .level, refl) (O .wide);
       }
 
   widened-opening : (n c : ℕ) (s : State) → Opening g floor c s → c + n ≤ g .channels → Opening g floor (c + n) (widened n s)
@@ -125,7 +125,7 @@ module _ (g : Settings) (floor : ℕ) (q : inBounds g ≡ true) (h : floor ≤ l
   pub fresh-floor : (fresh g floor) .floor ≡ floor
   fresh-floor = fresh-opening .level
 
-  pub fresh-wide : All (λ p k e. (startOf k ≡ floor) × (e ≡ openEnd)) ((fresh g floor) .tree)
+  pub fresh-wide : All (λ k e. (startOf k ≡ floor) × (e ≡ openEnd)) ((fresh g floor) .tree)
   fresh-wide = fresh-opening .wide
 
   -- "At opening with floor F each channel has one void (F, open end)."
@@ -138,8 +138,8 @@ module _ (g : Settings) (floor : ℕ) (q : inBounds g ≡ true) (h : floor ≤ l
       there : Has (meaning (fresh g floor) .voids) c s e → (c < g .channels) × (s ≡ floor) × (e ≡ openEnd)
       there x =
           let v = has-voids c s e t .0 x in
-          let w = all-in _ t fresh-wide (v .place) (v .key) e (v .inside) in
-          let l = all-in _ t (fresh-sound .lawful) (v .place) (v .key) e (v .inside) in
+          let w = all-in _ t fresh-wide (v .key) e (v .inside) in
+          let l = all-in _ t (fresh-sound .lawful) (v .key) e (v .inside) in
           let n : (fresh g floor) .settings .channels ≡ g .channels = ap (λ (x : Settings). x .channels) fresh-settings in
           (omega (arith, l .channel, v .channel, n), sym (v .start) ∙ w .0, w .1)
 
@@ -147,5 +147,5 @@ module _ (g : Settings) (floor : ℕ) (q : inBounds g ≡ true) (h : floor ≤ l
       back x =
           let n : (fresh g floor) .settings .channels ≡ g .channels = ap (λ (x : Settings). x .channels) fresh-settings in
           let o = fresh-sound .openEnds c (omega (arith, n, x .0)) in
-          let w = all-in _ t fresh-wide (o .place) (o .key) openEnd (o .inside) in
-          has-voids c s e t .1 (record { place = o .place; key = o .key; inside = rw (x .2) (o .inside); channel = o .channel; start = w .0 ∙ sym (x .1) })
+          let w = all-in _ t fresh-wide (o .key) openEnd (o .inside) in
+          has-voids c s e t .1 (record { key = o .key; inside = rw (x .2) (o .inside); channel = o .channel; start = w .0 ∙ sym (x .1) })

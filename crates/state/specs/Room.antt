@@ -10,10 +10,10 @@ use Rattle.shape.specs.Tree.{size, All}
 use Rattle.state.specs.State.{State}
 use Rattle.state.specs.Sound.{mostKey}
 
--- what a split asks of the state: two spare places; room for two pieces; never the last void to drop; and a new key
+-- what a split asks of the state: a spare place; room for two pieces; never the last void to drop; and a new key
 pub record Room (s : State) (k e r f : ℕ) : Type 0 where
-  pub spare : 2 ≤ length (s .spares)
+  pub spare : 1 ≤ length (s .spares)
   pub less : kept (s .floor) (startOf k) r ≡ true → kept (s .floor) f e ≡ true → size (s .tree) < s .settings .room
   pub another : kept (s .floor) (startOf k) r ≡ false → kept (s .floor) f e ≡ false → 2 ≤ size (s .tree)
   pub key : kept (s .floor) f e ≡ true → keyOf f (channelOf k) < mostKey
-  pub clear : kept (s .floor) f e ≡ true → All (λ p j g. j ≢ keyOf f (channelOf k)) (s .tree)
+  pub clear : kept (s .floor) f e ≡ true → All (λ j g. j ≢ keyOf f (channelOf k)) (s .tree)

@@ -43,11 +43,11 @@ module _ (s : State) (W : Sound s) where
     effect : (o : Sought) (n : ℕ) → Found (s .tree) h (Fair (s .floor) h) o
         → let y = bookFound s l (record { out = o; count = n }) in Effect (meaning s) l (y .reply) (choice o) (meaning (y .after))
     effect nowhere n a = same (meaning s)
-    effect (found i b p k e) n a = elim (case-full (s .settings) (s .floor) (size (s .tree)) b (free b (hold (s .settings) l)) (startOf k) e) [
+    effect (found i b k e) n a = elim (case-full (s .settings) (s .floor) (size (s .tree)) b (free b (hold (s .settings) l)) (startOf k) e) [
       | inl y ↦ rw (y .1) (same (meaning s))
       | inr y ↦
-          let S = found-split 0 (s .floor) (s .settings) (shut (s .tree)) s (omega arith) (sound-lives s W) h long b p k e (a .0) (a .1) (y .0) in
-          rw (y .1) (replaced s p k e b (free b h) _ S (search-some 0 mostKey b (free b h) (s .tree) (W .ordered) p k e (a .1) .0))
+          let S = found-split 0 (s .floor) (s .settings) (shut (s .tree)) s (omega arith) (sound-lives s W) h long b k e (a .0) (a .1) (y .0) in
+          rw (y .1) (replaced s k e b (free b h) _ S (search-some 0 mostKey b (free b h) (s .tree) (W .ordered) k e (a .1) .0))
     ]
 
   book-rule : (r l m : ℕ) → let y = act s (booking r l m) in Rule (meaning s) (booking r l m) (y .reply) (meaning (y .after))

@@ -22,7 +22,7 @@ split-settings s k e r f = elim (case-kept (s .floor) (startOf k) r) [
 ]
 
 carried-settings : (s : State) (h : ℕ) (y : Reply) (o : Sought) → (carried s h y o) .settings ≡ s .settings
-carried-settings s h (booked c i r f) (found i′ r′ p k e) = split-settings s k e r′ (free r′ h)
+carried-settings s h (booked c i r f) (found i′ r′ k e) = split-settings s k e r′ (free r′ h)
 carried-settings s h (booked c i r f) nowhere = refl
 carried-settings s h (swept d) o = refl
 carried-settings s h (refused x) o = refl

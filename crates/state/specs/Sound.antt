@@ -22,13 +22,12 @@ pub record Lawful (channels floor k e : ℕ) : Type 0 where
 
 -- "voids of one channel apart by at least one tick"
 abbrev pub Apart : Tree → Type 0
-Apart t = (p k e p′ k′ e′ : ℕ) → In p k e t → In p′ k′ e′ t → channelOf k ≡ channelOf k′ → k < k′ → e < startOf k′
+Apart t = (k e k′ e′ : ℕ) → In k e t → In k′ e′ t → channelOf k ≡ channelOf k′ → k < k′ → e < startOf k′
 
 -- "one open end for each channel"
 pub record OpenEnd (t : Tree) (c : ℕ) : Type 0 where
-  pub place : ℕ
   pub key : ℕ
-  pub inside : In place key openEnd t
+  pub inside : In key openEnd t
   pub channel : channelOf key ≡ c
 
 -- how often a place is in a list
@@ -51,11 +50,11 @@ pub record Sound (s : State) : Type 0 where
   -- "ordered leaves", "the team's balancing rule"
   pub ordered : Ord 0 mostKey (s .tree)
   pub balanced : Balanced (s .tree)
-  pub lawful : All (λ p k e. Lawful (s .settings .channels) (s .floor) k e) (s .tree)
+  pub lawful : All (λ k e. Lawful (s .settings .channels) (s .floor) k e) (s .tree)
   pub apart : Apart (s .tree)
   pub openEnds : (c : ℕ) → c < s .settings .channels → OpenEnd (s .tree) c
   -- "every spare place accounted for": each place is used once, in the tree or as a spare one
   pub all : (z : ℕ) → uses z (s .tree) + among z (s .spares) ≡ below z (places (s .settings .room))
-  pub many : length (s .spares) + 2 * size (s .tree) ≡ 2 * s .settings .room + 2
+  pub many : length (s .spares) + size (s .tree) ≡ s .settings .room + 1
   -- no more voids than the room
   pub within : size (s .tree) ≤ s .settings .room

@@ -30,19 +30,19 @@ module _ (s : State) (W : Sound s) where
 
   -- the void found is a leaf that fits, and unless code 8 is given a split of it never lacks a spare place, has room for
   -- two pieces where both are kept, and never drops the last void
-  pub split-room : (r l m i b p k e : ℕ) → bookingCode (s .settings) (s .floor) r l m ≡ 0
+  pub split-room : (r l m i b k e : ℕ) → bookingCode (s .settings) (s .floor) r l m ≡ 0
       → let h = hold (s .settings) l in
-      (seek (s .tree) h (starts (s .settings .delays) r h m)) .out ≡ found i b p k e
+      (seek (s .tree) h (starts (s .settings .delays) r h m)) .out ≡ found i b k e
       → tooMany (s .settings) (s .floor) (size (s .tree)) b (free b h) (startOf k) e ≡ false
-      → In p k e (s .tree) × Fits (startOf k) e b (free b h) × Room s k e b (free b h)
-  split-room r l m i b p k e q out few =
+      → In k e (s .tree) × Fits (startOf k) e b (free b h) × Room s k e b (free b h)
+  split-room r l m i b k e q out few =
       let h = hold (s .settings) l in
       let z = booking-goes (s .settings) (s .floor) r l m q in
-      let F : Found (s .tree) h (Fair (s .floor) h) (found i b p k e) = subst (Found (s .tree) h (Fair (s .floor) h)) out (booking-found (s .settings) (s .floor) (s .tree) r l m q) in
-      let a = search-some 0 mostKey b (free b h) (s .tree) (W .ordered) p k e (F .1) in (
+      let F : Found (s .tree) h (Fair (s .floor) h) (found i b k e) = subst (Found (s .tree) h (Fair (s .floor) h)) out (booking-found (s .settings) (s .floor) (s .tree) r l m q) in
+      let a = search-some 0 mostKey b (free b h) (s .tree) (W .ordered) k e (F .1) in (
         a .0,
         a .1,
-        found-room 0 (s .floor) (s .settings) (shut (s .tree)) s (omega arith) (sound-lives s W) h (z .0) b p k e (F .0) (F .1) (
+        found-room 0 (s .floor) (s .settings) (shut (s .tree)) s (omega arith) (sound-lives s W) h (z .0) b k e (F .0) (F .1) (
             elim (case-full (s .settings) (s .floor) (size (s .tree)) b (free b (hold (s .settings) l)) (startOf k) e) [
               | inl y ↦ absurd (false≢true (sym few ∙ y .1))
               | inr y ↦ y .0

@@ -1,12 +1,12 @@
 -- A link as the memory holds it: settings, floor, the tree of its voids and the places that are spare.
 -- Three steps change it: another end for a void, a void more, a void less. Each fixes every place.
 use mathlib.Core.List.{List, [], _∷_, _++_}
-use Prim.Native.Nat.{ℕ, zero, suc, _+_, _*_}
+use Prim.Native.Nat.{ℕ}
 use Rattle.rule.specs.Settings.{Settings}
 use Rattle.rule.specs.Voids.{Void, Meaning}
 use Rattle.rule.specs.Key.{startOf, channelOf}
 use Rattle.shape.specs.Tree.{Tree, leaf, node}
-use Rattle.shape.specs.Arrange.{insert, remove, leafOf, above, setEnd}
+use Rattle.shape.specs.Arrange.{insert, remove, above, setEnd}
 
 pub record State : Type 0 where
   pub settings : Settings
@@ -14,13 +14,13 @@ pub record State : Type 0 where
   pub tree : Tree
   pub spares : List ℕ
 
--- the places of a link: two more than a full tree has, so that a booking may add a void before it drops one
+-- the places of a link: one more pair than a full tree has, so that a booking may add a void before it drops one
 abbrev pub places : (room : ℕ) → ℕ
-places room = 2 * room + 1
+places room = room
 
 -- ---- what a state means: its voids, from left to right
 abbrev pub voidsOf : Tree → List Void
-voidsOf (leaf p k e) = record { channel = channelOf k; start = startOf k; end = e } ∷ []
+voidsOf (leaf k e) = record { channel = channelOf k; start = startOf k; end = e } ∷ []
 voidsOf (node p l r) = voidsOf l ++ voidsOf r
 
 abbrev pub meaning : State → Meaning
@@ -43,13 +43,13 @@ with-tree s t ps = record { settings = s .settings; floor = s .floor; tree = t; 
 unfoldable pub shorten : State → (k e : ℕ) → State
 shorten s k e = with-tree s (setEnd k e (s .tree)) (s .spares)
 
--- one void more, in the first two spare places: the first for the leaf, the second for the node above it
+-- one void more, under a new node whose children stand at the first spare place
 unfoldable pub add : State → (k e : ℕ) → State
-add s k e = with-tree s (insert k e (first (s .spares)) (first (rest (s .spares))) (s .tree)) (rest (rest (s .spares)))
+add s k e = with-tree s (insert k e (first (s .spares)) (s .tree)) (rest (s .spares))
 
--- one void less; the places of its leaf and of the node above it become the first spare ones
+-- one void less; the place of the node above it becomes the first spare one
 unfoldable pub drop : State → (k : ℕ) → State
-drop s k = with-tree s (remove k (s .tree)) (leafOf k (s .tree) ∷ above k (s .tree) ∷ s .spares)
+drop s k = with-tree s (remove k (s .tree)) (above k (s .tree) ∷ s .spares)
 
 -- another floor
 abbrev pub with-floor : State → ℕ → State

@@ -60,9 +60,9 @@ module _ (moment F₀ G C : ℕ) (H : ℕ → ℕ → ℕ) (f : least moment ≤
     ordered = left-ordered b t u ps L 0 mostKey (K .ordered);
     balanced = L .even .0;
     once = λ c s a. omega (arith, K .once c s a, left-less b t u ps L (cov c s));
-    full = λ c s a i j k. omega (arith, K .full c s a i j k, left-same b t u ps L (cov c s) (λ p q e l. cov-no c s p q e (omega (arith, l, j))));
+    full = λ c s a i j k. omega (arith, K .full c s a i j k, left-same b t u ps L (cov c s) (λ k e l. cov-no c s k e (omega (arith, l, j))));
     last = K .last;
-    edges = L .all (λ p k e. Bordered F₀ G C H k e) (all-map (λ p k e z n. z) t (K .edges));
+    edges = L .all (λ k e. Bordered F₀ G C H k e) (all-map (λ k e z n. z) t (K .edges));
   }
 
   pub clear-dropped : (s : State) → Kept F₀ b G C H (s .tree) → Dropped moment F₀ G C H s (cleared s b)
@@ -70,14 +70,14 @@ module _ (moment F₀ G C : ℕ) (H : ℕ → ℕ → ℕ) (f : least moment ≤
   clear-dropped s K =
       let t = s .tree in
       let x = low-ends t in
-      let o = open-end F₀ b G C H t K f h (channelOf (x .key)) (bordered F₀ b G C H t K (x .place) (x .key) (low t) (x .inside) .channel) in
-      let u = left-some b t (o .place) (o .key) openEnd (K .balanced) (o .inside) f in
+      let o = open-end F₀ b G C H t K f h (channelOf (x .key)) (bordered F₀ b G C H t K (x .key) (low t) (x .inside) .channel) in
+      let u = left-some b t (o .key) openEnd (K .balanced) (o .inside) f in
       let L = u .2 in
       rw (u .1) (record {
         kept = forget t (u .0) (freed b t) K L;
-        none = none-lost b (λ p k e. 1) (u .0) (left-late b t (u .0) (freed b t) L);
+        none = none-lost b (λ k e. 1) (u .0) (left-late b t (u .0) (freed b t) L);
         placed = λ P. placed-left s b (u .0) L P;
-        fewer = omega (arith, left-less b t (u .0) (freed b t) L (λ p k e. 1), size-weight t, size-weight (u .0));
+        fewer = omega (arith, left-less b t (u .0) (freed b t) L (λ k e. 1), size-weight t, size-weight (u .0));
         settings = refl;
       })
 
@@ -89,13 +89,13 @@ module _ (moment F₀ G C : ℕ) (H : ℕ → ℕ → ℕ) (f : least moment ≤
     once = K .once;
     full = K .full;
     last = K .last;
-    edges = all-of (λ p k e. Bordered F₀ (least moment) C H k e) t (λ p k e i.
-        let b = bordered F₀ (least moment) G C H t K p k e i in
-        record { some = b .some; since = b .since; most = b .most; stay = stay p k e i; channel = b .channel; stops = b .stops; starts = b .starts });
+    edges = all-of (λ k e. Bordered F₀ (least moment) C H k e) t (λ k e i.
+        let b = bordered F₀ (least moment) G C H t K k e i in
+        record { some = b .some; since = b .since; most = b .most; stay = stay k e i; channel = b .channel; stops = b .stops; starts = b .starts });
   }
     where
-      stay : (p k e : ℕ) → In p k e t → least moment ≤ e
-      stay p k e i = elim (case-le (least moment) e) [
+      stay : (k e : ℕ) → In k e t → least moment ≤ e
+      stay k e i = elim (case-le (least moment) e) [
         | inl y ↦ y .0
-        | inr y ↦ absurd (let z : _≡_ {A = ℕ} (pick (stays moment e) 0 1) 1 = rw (y .1) in omega (arith, weight-in (λ p k e. pick (stays moment e) 0 1) (λ q. 0) t p k e i, z, q))
+        | inr y ↦ absurd (let z : _≡_ {A = ℕ} (pick (stays moment e) 0 1) 1 = rw (y .1) in omega (arith, weight-in (λ k e. pick (stays moment e) 0 1) (λ q. 0) t k e i, z, q))
       ]

@@ -84,46 +84,45 @@ pub on-yes : (t d s e : ℕ) → s ≤ t → t < e → on d t d s e ≡ 1
 on-yes t d s e h i = omega (arith, on-self d t s e, from-yes s t h, from-no e t i)
 
 -- ---- a leaf's void
-module _ (c t p k e : ℕ) where
-  pub cov-yes : channelOf k ≡ c → startOf k ≤ t → t < e → cov c t p k e ≡ 1
+module _ (c t k e : ℕ) where
+  pub cov-yes : channelOf k ≡ c → startOf k ≤ t → t < e → cov c t k e ≡ 1
   unfolding cov
   cov-yes q h i = rw (← q) (on-yes t (channelOf k) (startOf k) e h i)
 
-  pub cov-no : e ≤ t → cov c t p k e ≡ 0
+  pub cov-no : e ≤ t → cov c t k e ≡ 0
   unfolding cov
   cov-no h = on-past c t (channelOf k) (startOf k) e h
 
-  pub cov-empty : e ≤ startOf k → cov c t p k e ≡ 0
+  pub cov-empty : e ≤ startOf k → cov c t k e ≡ 0
   unfolding cov
   cov-empty h = on-empty c t (channelOf k) (startOf k) e h
 
-  pub cov-is : 1 ≤ cov c t p k e → (channelOf k ≡ c) × (startOf k ≤ t) × (t < e)
+  pub cov-is : 1 ≤ cov c t k e → (channelOf k ≡ c) × (startOf k ≤ t) × (t < e)
   unfolding cov
   cov-is h = on-is c t (channelOf k) (startOf k) e h
 
-  pub cov-one : cov c t p k e ≤ 1
-  cov-one = elim (case-le 1 (cov c t p k e)) [
+  pub cov-one : cov c t k e ≤ 1
+  cov-one = elim (case-le 1 (cov c t k e)) [
     | inl y ↦ let z = cov-is (y .0) in omega (arith, cov-yes (z .0) (z .1) (z .2))
     | inr y ↦ omega arith
   ]
 
   -- a void is the piece in front of r, the time from r up to f, and the piece behind f
-  pub cov-split : (q r f : ℕ) → startOf k ≤ r → r ≤ f → f ≤ e
-      → cov c t p k e ≡ cov c t p k r + on c t (channelOf k) r f + cov c t q (keyOf f (channelOf k)) e
+  pub cov-split : (r f : ℕ) → startOf k ≤ r → r ≤ f → f ≤ e
+      → cov c t k e ≡ cov c t k r + on c t (channelOf k) r f + cov c t (keyOf f (channelOf k)) e
   unfolding cov
-  cov-split q r f h i j =
+  cov-split r f h i j =
       rw (start-of-key f (channelOf k), channel-of-key f (channelOf k) (omega arith)) (on-split c t (channelOf k) (startOf k) r f e h i j)
 
 -- ---- the voids of a tree
-pub cover-in : (t : Tree) (c s p k e : ℕ) → In p k e t → channelOf k ≡ c → startOf k ≤ s → s < e → 1 ≤ cover t c s
-cover-in t c s p k e i q h j = omega (arith, weight-in (cov c s) (λ q. 0) t p k e i, cov-yes c s p k e q h j)
+pub cover-in : (t : Tree) (c s k e : ℕ) → In k e t → channelOf k ≡ c → startOf k ≤ s → s < e → 1 ≤ cover t c s
+cover-in t c s k e i q h j = omega (arith, weight-in (cov c s) (λ q. 0) t k e i, cov-yes c s k e q h j)
 
 -- the void that holds a tick
 pub record Holds (t : Tree) (c s : ℕ) : Type 0 where
-  pub place : ℕ
   pub key : ℕ
   pub end : ℕ
-  pub inside : In place key end t
+  pub inside : In key end t
   pub channel : channelOf key ≡ c
   pub start : startOf key ≤ s
   pub before : s < end
@@ -131,5 +130,5 @@ pub record Holds (t : Tree) (c s : ℕ) : Type 0 where
 pub cover-some : (t : Tree) (c s : ℕ) → 1 ≤ cover t c s → Holds t c s
 cover-some t c s h =
     let x = weight-some (cov c s) t h in
-    let y = cov-is c s (x .place) (x .key) (x .end) (x .heavy) in
-    record { place = x .place; key = x .key; end = x .end; inside = x .inside; channel = y .0; start = y .1; before = y .2 }
+    let y = cov-is c s (x .key) (x .end) (x .heavy) in
+    record { key = x .key; end = x .end; inside = x .inside; channel = y .0; start = y .1; before = y .2 }

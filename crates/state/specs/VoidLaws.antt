@@ -34,24 +34,24 @@ module _ (c s e : ℕ) where
   has-either (x ∷ xs) ys (inr h) = elim (has-either xs ys h) [ inl y ↦ inl (inr y) | inr y ↦ inr y ]
 
   has-in : (t : Tree) → Has (voidsOf t) c s e → VoidsIn t c s e
-  has-in (leaf p k e′) (inl h) = record { place = p; key = k; inside = (refl, refl, sym (h .2)); channel = h .0; start = h .1 }
-  has-in (leaf p k e′) (inr h) = absurd h
+  has-in (leaf k e′) (inl h) = record { key = k; inside = (refl, sym (h .2)); channel = h .0; start = h .1 }
+  has-in (leaf k e′) (inr h) = absurd h
   has-in (node q l r) h = go (has-in l) (has-in r) (has-either (voidsOf l) (voidsOf r) h)
     where
       go : (Has (voidsOf l) c s e → VoidsIn l c s e) → (Has (voidsOf r) c s e → VoidsIn r c s e) → Has (voidsOf l) c s e ⊎ Has (voidsOf r) c s e → VoidsIn (node q l r) c s e
-      go f g (inl x) = let v = f x in record { place = v .place; key = v .key; inside = inl (v .inside); channel = v .channel; start = v .start }
-      go f g (inr x) = let v = g x in record { place = v .place; key = v .key; inside = inr (v .inside); channel = v .channel; start = v .start }
+      go f g (inl x) = let v = f x in record { key = v .key; inside = inl (v .inside); channel = v .channel; start = v .start }
+      go f g (inr x) = let v = g x in record { key = v .key; inside = inr (v .inside); channel = v .channel; start = v .start }
 
-  in-has : (t : Tree) (p k : ℕ) → In p k e t → channelOf k ≡ c → startOf k ≡ s → Has (voidsOf t) c s e
-  in-has (leaf p′ k′ e′) p k i q r = inl (omega arith)
-  in-has (node m l r) p k (inl i) q z = has-left (voidsOf l) (voidsOf r) (in-has l p k i q z)
-  in-has (node m l r) p k (inr i) q z = has-right (voidsOf l) (voidsOf r) (in-has r p k i q z)
+  in-has : (t : Tree) (k : ℕ) → In k e t → channelOf k ≡ c → startOf k ≡ s → Has (voidsOf t) c s e
+  in-has (leaf k′ e′) k i q r = inl (omega arith)
+  in-has (node m l r) k (inl i) q z = has-left (voidsOf l) (voidsOf r) (in-has l k i q z)
+  in-has (node m l r) k (inr i) q z = has-right (voidsOf l) (voidsOf r) (in-has r k i q z)
 
   pub has-voids : (t : Tree) → Has (voidsOf t) c s e ↔ VoidsIn t c s e
-  has-voids t = (has-in t, (λ v. in-has t (v .place) (v .key) (v .inside) (v .channel) (v .start)))
+  has-voids t = (has-in t, (λ v. in-has t (v .key) (v .inside) (v .channel) (v .start)))
 
 pub length-voids : (t : Tree) → length (voidsOf t) ≡ size t
-length-voids (leaf p k e) = refl
+length-voids (leaf k e) = refl
 length-voids (node m l r) = omega (arith, length-append (voidsOf l) (voidsOf r), length-voids l, length-voids r)
 
 dropped-append : (moment : ℕ) (xs ys : List Void) → dropped moment (xs ++ ys) ≡ dropped moment xs + dropped moment ys
@@ -59,7 +59,7 @@ dropped-append moment [] ys = omega arith
 dropped-append moment (x ∷ xs) ys = omega (arith, dropped-append moment xs ys)
 
 pub dropped-voids : (moment : ℕ) (t : Tree) → dropped moment (voidsOf t) ≡ toDrop moment t
-dropped-voids moment (leaf p k e) = omega arith
+dropped-voids moment (leaf k e) = omega arith
 dropped-voids moment (node m l r) = omega (arith, dropped-append moment (voidsOf l) (voidsOf r), dropped-voids moment l, dropped-voids moment r)
 
 -- a channel has at most one void from a moment on, since its key has one leaf
@@ -68,7 +68,7 @@ one-end a b t o c s e e′ i j =
     let v = has-voids c s e t .0 i in
     let w = has-voids c s e′ t .0 j in
     let q : w .key ≡ v .key = omega (arith, key-is (v .key), key-is (w .key), v .channel, v .start, w .channel, w .start) in
-    same-key a b t o (v .place) (v .key) e (w .place) e′ (v .inside) (rw q at (w .inside)) .1
+    same-key a b t o (v .key) e e′ (v .inside) (rw q at (w .inside))
 
 -- ---- a choice depends on the set of voids only
 module _ (W U : Voids) (f : (c s e : ℕ) → W c s e ↔ U c s e) where

@@ -28,11 +28,11 @@ Case n = ((1 ≤ n) × (leb 1 n ≡ true)) ⊎ ((n < 1) × (leb 1 n ≡ false))
 
 -- no tick is in two voids
 pub cover-one : (a b c s : ℕ) (t : Tree) → Ord a b t → Apart t → cover t c s ≤ 1
-cover-one a b c s (leaf p k e) o h = cov-one c s p k e
+cover-one a b c s (leaf k e) o h = cov-one c s k e
 cover-one a b c s (node q l r) o h =
     go (case-le 1 (cover l c s)) (case-le 1 (cover r c s))
-    (cover-one a (lo r) c s l (o .0) (λ p k e p′ k′ e′ i j. h p k e p′ k′ e′ (inl i) (inl j)))
-    (cover-one (lo r) b c s r (o .1) (λ p k e p′ k′ e′ i j. h p k e p′ k′ e′ (inr i) (inr j)))
+    (cover-one a (lo r) c s l (o .0) (λ k e k′ e′ i j. h k e k′ e′ (inl i) (inl j)))
+    (cover-one (lo r) b c s r (o .1) (λ k e k′ e′ i j. h k e k′ e′ (inr i) (inr j)))
   where
     go : Case (cover l c s) → Case (cover r c s) → cover l c s ≤ 1 → cover r c s ≤ 1 → 0 + cover l c s + cover r c s ≤ 1
     go (inr x) y u v = omega arith
@@ -42,8 +42,8 @@ cover-one a b c s (node q l r) o h =
         let Y = cover-some r c s (y .0) in
         absurd (omega (
           arith,
-          h (X .place) (X .key) (X .end) (Y .place) (Y .key) (Y .end) (inl (X .inside)) (inr (Y .inside)) (omega (arith, X .channel, Y .channel))
-              (omega (arith, in-ord a (lo r) l (o .0) _ _ _ (X .inside), in-ord (lo r) b r (o .1) _ _ _ (Y .inside))),
+          h (X .key) (X .end) (Y .key) (Y .end) (inl (X .inside)) (inr (Y .inside)) (omega (arith, X .channel, Y .channel))
+              (omega (arith, in-ord a (lo r) l (o .0) _ _ (X .inside), in-ord (lo r) b r (o .1) _ _ (Y .inside))),
           X .before,
           Y .start,
         ))
@@ -56,28 +56,28 @@ module _ (s : State) (W : Sound s) where
   abbrev t : Tree
   t = s .tree
 
-  lawful : (p k e : ℕ) → In p k e t → Lawful (s .settings .channels) (s .floor) k e
+  lawful : (k e : ℕ) → In k e t → Lawful (s .settings .channels) (s .floor) k e
   lawful = all-in _ t (W .lawful)
 
-  clear-at : (c b : ℕ) → ((p k e : ℕ) → In p k e t → channelOf k ≡ c → startOf k ≤ b → b < e → ⊥) → cover t c b ≡ 0
+  clear-at : (c b : ℕ) → ((k e : ℕ) → In k e t → channelOf k ≡ c → startOf k ≤ b → b < e → ⊥) → cover t c b ≡ 0
   clear-at c b f = elim (case-le 1 (cover t c b)) [
-    | inl y ↦ let x = cover-some t c b (y .0) in absurd (f (x .place) (x .key) (x .end) (x .inside) (x .channel) (x .start) (x .before))
+    | inl y ↦ let x = cover-some t c b (y .0) in absurd (f (x .key) (x .end) (x .inside) (x .channel) (x .start) (x .before))
     | inr y ↦ omega arith
   ]
 
   -- no void holds the tick where another of its channel ends, nor the one before it starts
-  at-end : (p k e : ℕ) → In p k e t → cover t (channelOf k) e ≡ 0
-  at-end p k e i = clear-at (channelOf k) e (λ p′ k′ e′ j q x y. elim (case-le k k′) [
-    | inr z ↦ omega (arith, W .apart p′ k′ e′ p k e j i q (z .0), lawful p k e i .some)
+  at-end : (k e : ℕ) → In k e t → cover t (channelOf k) e ≡ 0
+  at-end k e i = clear-at (channelOf k) e (λ k′ e′ j q x y. elim (case-le k k′) [
+    | inr z ↦ omega (arith, W .apart k′ e′ k e j i q (z .0), lawful k e i .some)
     | inl z ↦ elim (case-eq k k′) [
-      | inl n ↦ omega (arith, same-key 0 mostKey t (W .ordered) p k e p′ e′ i (rw (n .0) j))
-      | inr n ↦ omega (arith, W .apart p k e p′ k′ e′ i j (sym q) (omega (arith, n .0)))
+      | inl n ↦ omega (arith, same-key 0 mostKey t (W .ordered) k e e′ i (rw (n .0) j))
+      | inr n ↦ omega (arith, W .apart k e k′ e′ i j (sym q) (omega (arith, n .0)))
     ]
   ])
 
-  at-start : (p k e : ℕ) → In p k e t → 1 ≤ startOf k → cover t (channelOf k) (startOf k - 1) ≡ 0
-  at-start p k e i n = clear-at (channelOf k) (startOf k - 1) (λ p′ k′ e′ j q x y. elim (case-le k k′) [
-    | inr z ↦ omega (arith, W .apart p′ k′ e′ p k e j i q (z .0))
+  at-start : (k e : ℕ) → In k e t → 1 ≤ startOf k → cover t (channelOf k) (startOf k - 1) ≡ 0
+  at-start k e i n = clear-at (channelOf k) (startOf k - 1) (λ k′ e′ j q x y. elim (case-le k k′) [
+    | inr z ↦ omega (arith, W .apart k′ e′ k e j i q (z .0))
     | inl z ↦ omega arith
   ])
 
@@ -89,18 +89,18 @@ module _ (s : State) (W : Sound s) where
     full = λ c b a x y z. omega arith;
     last = λ c a.
         let o = W .openEnds c a in
-        let l = lawful (o .place) (o .key) openEnd (o .inside) in
-        omega (arith, cover-in t c lastMoment (o .place) (o .key) openEnd (o .inside) (o .channel) (omega (arith, l .some)) (omega arith));
-    edges = all-of (λ p k e. Bordered 0 (least (s .floor)) (s .settings .channels) (shut t) k e) t (λ p k e i.
-        let w = lawful p k e i in
+        let l = lawful (o .key) openEnd (o .inside) in
+        omega (arith, cover-in t c lastMoment (o .key) openEnd (o .inside) (o .channel) (omega (arith, l .some)) (omega arith));
+    edges = all-of (λ k e. Bordered 0 (least (s .floor)) (s .settings .channels) (shut t) k e) t (λ k e i.
+        let w = lawful k e i in
         record {
           some = w .some;
           since = omega arith;
           most = w .most;
           stay = stays-least (s .floor) e .0 (w .stay);
           channel = w .channel;
-          stops = inr (omega (arith, at-end p k e i));
-          starts = elim (case-le 1 (startOf k)) [ inl y ↦ inr (omega (arith, at-start p k e i (y .0))) | inr y ↦ inl (omega arith) ];
+          stops = inr (omega (arith, at-end k e i));
+          starts = elim (case-le 1 (startOf k)) [ inl y ↦ inr (omega (arith, at-start k e i (y .0))) | inr y ↦ inl (omega arith) ];
         });
   }
 
@@ -110,10 +110,10 @@ module _ (s : State) (W : Sound s) where
 -- ---- and what lives is sound
 module _ (F₀ F : ℕ) (g : Settings) (H : ℕ → ℕ → ℕ) (s : State) (L : Lives F₀ F g H s) where
   lives-apart : Apart (s .tree)
-  lives-apart p k e p′ k′ e′ i j q x =
+  lives-apart k e k′ e′ i j q x =
       let longest = leaf-longest F₀ (least (s .floor)) (least (s .floor)) (g .channels) H (s .tree) (L .kept) in
-      let A = longest p k e i in
-      let B : Longest F₀ H (channelOf k) (startOf k′) e′ = rw q (longest p′ k′ e′ j) in
+      let A = longest k e i in
+      let B : Longest F₀ H (channelOf k) (startOf k′) e′ = rw q (longest k′ e′ j) in
       elim (case-le (startOf k′) e) [
         | inr y ↦ y .0
         | inl y ↦ elim (case-le e (startOf k′)) [
@@ -128,7 +128,7 @@ module _ (F₀ F : ℕ) (g : Settings) (H : ℕ → ℕ → ℕ) (s : State) (L 
     floor = L .floor;
     ordered = L .kept .ordered;
     balanced = L .kept .balanced;
-    lawful = rw (L .settings) (all-map (λ p k e v. record { channel = v .channel; some = v .some; most = v .most; stay = stays-least (s .floor) e .1 (v .stay) }) (s .tree) (L .kept .edges));
+    lawful = rw (L .settings) (all-map (λ k e v. record { channel = v .channel; some = v .some; most = v .most; stay = stays-least (s .floor) e .1 (v .stay) }) (s .tree) (L .kept .edges));
     apart = lives-apart;
     openEnds = rw (L .settings) (open-end F₀ (least (s .floor)) (least (s .floor)) (g .channels) H (s .tree) (L .kept) (omega (arith, least-most (s .floor), L .floor)) z);
     all = L .placed .all;

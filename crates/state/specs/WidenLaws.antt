@@ -13,11 +13,11 @@ use Rattle.rule.specs.Key.{keyOf, startOf, channelOf, start-of-key, channel-of-
 use Rattle.shape.specs.Tree.{size, In, All}
 use Rattle.shape.specs.TreeLaws.{all-map, all-in, all-of}
 use Rattle.shape.specs.InsertLaws.{Inserted, insert-ok, inserted-size}
-use Rattle.state.specs.State.{State, first, rest, add}
+use Rattle.state.specs.State.{State, first, add}
 use Rattle.state.specs.Open.{with-channels, widen}
 use Rattle.state.specs.Sound.{Lawful, Apart, OpenEnd, Sound, mostKey}
 use Rattle.state.specs.Places.{Placed}
-use Rattle.state.specs.PlaceLaws.{two-spare, placed-add}
+use Rattle.state.specs.PlaceLaws.{one-spare, placed-add}
 use Rattle.state.specs.KeptLaws.{stays-least}
 use Rattle.state.specs.LeafLaws.{inserted-in, inserted-new}
 
@@ -31,11 +31,8 @@ module _ (s : State) (W : Sound s) (q : inBounds (with-channels (s .settings) (s
   abbrev wider : State
   wider = record { settings = with-channels (s .settings) (c + 1); floor = s .floor; tree = s .tree; spares = s .spares }
 
-  abbrev p : ℕ
-  p = first (s .spares)
-
   abbrev x : ℕ
-  x = first (rest (s .spares))
+  x = first (s .spares)
 
   few : c < mostChannels
   few = omega (arith, in-bounds (with-channels (s .settings) (c + 1)) q .channels .1)
@@ -43,29 +40,29 @@ module _ (s : State) (W : Sound s) (q : inBounds (with-channels (s .settings) (s
   of-new : channelOf K ≡ c
   of-new = channel-of-key (s .floor) c (omega (arith, few))
 
-  clear : All (λ p j e. j ≢ K) (s .tree)
-  clear = all-map (λ p j e v y. omega (arith, v .channel, ap channelOf y, of-new)) (s .tree) (W .lawful)
+  clear : All (λ j e. j ≢ K) (s .tree)
+  clear = all-map (λ j e v y. omega (arith, v .channel, ap channelOf y, of-new)) (s .tree) (W .lawful)
 
-  pub widen-inserted : Inserted 0 mostKey p x K openEnd (s .tree) ((widen s) .tree)
+  pub widen-inserted : Inserted 0 mostKey x K openEnd (s .tree) ((widen s) .tree)
   unfolding widen add
-  widen-inserted = insert-ok 0 mostKey p x K openEnd (s .tree) (W .ordered) (W .balanced) (omega arith) (omega (arith, W .floor)) clear
+  widen-inserted = insert-ok 0 mostKey x K openEnd (s .tree) (W .ordered) (W .balanced) (omega arith) (omega (arith, W .floor)) clear
 
-  abbrev Leaf : (p k e : ℕ) → Type 0
-  Leaf p′ k e = In p′ k e (s .tree) ⊎ ((k ≡ K) × (e ≡ openEnd))
+  abbrev Leaf : (k e : ℕ) → Type 0
+  Leaf k e = In k e (s .tree) ⊎ ((k ≡ K) × (e ≡ openEnd))
 
   leaves-are : All Leaf ((widen s) .tree)
-  leaves-are = widen-inserted .all Leaf (inr (refl, refl)) (all-of Leaf (s .tree) (λ p k e i. inl i))
+  leaves-are = widen-inserted .all Leaf (inr (refl, refl)) (all-of Leaf (s .tree) (λ k e i. inl i))
 
-  of-old : (p k e : ℕ) → In p k e (s .tree) → channelOf k < c
-  of-old p k e i = all-in _ (s .tree) (W .lawful) p k e i .channel
+  of-old : (k e : ℕ) → In k e (s .tree) → channelOf k < c
+  of-old k e i = all-in _ (s .tree) (W .lawful) k e i .channel
 
   apart : Apart ((widen s) .tree)
-  apart p k e p′ k′ e′ i j a b = go (all-in Leaf ((widen s) .tree) leaves-are p k e i) (all-in Leaf ((widen s) .tree) leaves-are p′ k′ e′ j)
+  apart k e k′ e′ i j a b = go (all-in Leaf ((widen s) .tree) leaves-are k e i) (all-in Leaf ((widen s) .tree) leaves-are k′ e′ j)
     where
-      go : Leaf p k e → Leaf p′ k′ e′ → e < startOf k′
-      go (inl u) (inl v) = W .apart p k e p′ k′ e′ u v a b
-      go (inl u) (inr v) = absurd (omega (arith, of-old p k e u, ap channelOf (v .0), of-new))
-      go (inr u) (inl v) = absurd (omega (arith, of-old p′ k′ e′ v, ap channelOf (u .0), of-new))
+      go : Leaf k e → Leaf k′ e′ → e < startOf k′
+      go (inl u) (inl v) = W .apart k e k′ e′ u v a b
+      go (inl u) (inr v) = absurd (omega (arith, of-old k e u, ap channelOf (v .0), of-new))
+      go (inr u) (inl v) = absurd (omega (arith, of-old k′ e′ v, ap channelOf (u .0), of-new))
       go (inr u) (inr v) = absurd (omega (arith, u .0, v .0))
 
   open-ends : (d : ℕ) → d < c + 1 → OpenEnd ((widen s) .tree) d
@@ -73,17 +70,17 @@ module _ (s : State) (W : Sound s) (q : inBounds (with-channels (s .settings) (s
       let u = (widen s) .tree in
       elim (case-lt d c) [
         | inl y ↦ let o = W .openEnds d (y .0) in
-            record { place = o .place; key = o .key; inside = inserted-in 0 mostKey p x K openEnd (s .tree) u widen-inserted (o .place) (o .key) openEnd (o .inside); channel = o .channel }
-        | inr y ↦ record { place = p; key = K; inside = inserted-new 0 mostKey p x K openEnd (s .tree) u widen-inserted; channel = omega (arith, of-new) }
+            record { key = o .key; inside = inserted-in 0 mostKey x K openEnd (s .tree) u widen-inserted (o .key) openEnd (o .inside); channel = o .channel }
+        | inr y ↦ record { key = K; inside = inserted-new 0 mostKey x K openEnd (s .tree) u widen-inserted; channel = omega (arith, of-new) }
       ]
 
   placed : Placed (widen s)
   unfolding widen
   placed = let P : Placed wider = record { all = W .all; many = W .many } in
-      placed-add wider 0 mostKey (W .ordered) (W .balanced) P K openEnd (omega arith) (omega (arith, W .floor)) clear (two-spare wider P (W .within))
+      placed-add wider 0 mostKey (W .ordered) (W .balanced) P K openEnd (omega arith) (omega (arith, W .floor)) clear (one-spare wider P (W .within))
 
   pub widen-size : size ((widen s) .tree) ≡ size (s .tree) + 1
-  widen-size = inserted-size 0 mostKey p x K openEnd (s .tree) ((widen s) .tree) widen-inserted
+  widen-size = inserted-size 0 mostKey x K openEnd (s .tree) ((widen s) .tree) widen-inserted
 
   pub widen-sound : Sound (widen s)
   unfolding widen add
@@ -92,14 +89,14 @@ module _ (s : State) (W : Sound s) (q : inBounds (with-channels (s .settings) (s
     floor = W .floor;
     ordered = widen-inserted .ord;
     balanced = widen-inserted .even;
-    lawful = widen-inserted .all (λ p k e. Lawful (c + 1) (s .floor) k e)
+    lawful = widen-inserted .all (λ k e. Lawful (c + 1) (s .floor) k e)
         (record {
           channel = omega (arith, of-new);
           some = omega (arith, start-of-key (s .floor) c, W .floor);
           most = omega arith;
           stay = stays-least (s .floor) openEnd .1 (omega (arith, least-most (s .floor), W .floor));
         })
-        (all-map (λ p k e v. record { channel = omega (arith, v .channel); some = v .some; most = v .most; stay = v .stay }) (s .tree) (W .lawful));
+        (all-map (λ k e v. record { channel = omega (arith, v .channel); some = v .some; most = v .most; stay = v .stay }) (s .tree) (W .lawful));
     apart = apart;
     openEnds = open-ends;
     all = placed .all;
