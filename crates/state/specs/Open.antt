@@ -1,5 +1,5 @@
 -- The state that an accepted opening makes: "At opening with floor F each channel has one void (F, open end)" (01).
--- Channel 0 first: its void is the whole tree, and all places are spare. Then a void more for each further channel.
+-- Channel 0 first: its void is the whole tree, and all places but the root's are spare. Then a void more for each further channel.
 use mathlib.Core.List.{List, [], _∷_}
 use Prim.Native.Nat.{ℕ, zero, suc, _+_}
 use Rattle.rule.specs.Moments.{openEnd}
@@ -22,7 +22,7 @@ widen s = add (record { settings = with-channels (s .settings) (s .settings .cha
 
 -- one channel
 abbrev pub single : Settings → (floor : ℕ) → State
-single g floor = record { settings = with-channels g 1; floor = floor; tree = leaf (keyOf floor 0) openEnd; spares = upFrom 0 (g .room) }
+single g floor = record { settings = with-channels g 1; floor = floor; tree = leaf (keyOf floor 0) openEnd; spares = upFrom 1 (g .room) }
 
 -- n channels more
 abbrev pub widened : (n : ℕ) → State → State

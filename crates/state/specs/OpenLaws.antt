@@ -32,7 +32,7 @@ pub record Opening (g : Settings) (floor c : ℕ) (s : State) : Type 0 where
   pub many : size (s .tree) ≡ c
   pub wide : All (λ k e. (startOf k ≡ floor) × (e ≡ openEnd)) (s .tree)
 
--- ---- the places of the first channel: all spare
+-- ---- the places of the first channel: all spare but the root's
 below-next : (z p : ℕ) → same z p + below z p ≡ below z (p + 1)
 unfolding below
 below-next z p = elim (case-eq z p) [
@@ -62,10 +62,10 @@ below-none : (z : ℕ) → below z 0 ≡ 0
 unfolding below
 below-none z = elim (case-lt z 0) [ inl y ↦ absurd (omega arith) | inr y ↦ rw (y .1) ]
 
-single-all : (room z : ℕ) → 0 + among z (upFrom 0 room) ≡ below z (places room)
+single-all : (room z : ℕ) → same z 0 + 0 + among z (upFrom 1 room) ≡ below z (places room)
 single-all room z =
-    let q : 0 + room ≡ places room = omega arith in
-    omega (arith, rw q at (among-up z 0 room), below-none z)
+    let q : 1 + room ≡ places room = omega arith in
+    omega (arith, rw q at (among-up z 1 room), below-next z 0, below-none z)
 
 module _ (g : Settings) (floor : ℕ) (q : inBounds g ≡ true) (h : floor ≤ lastMoment) where
   pub single-sound : Sound (single g floor)
@@ -78,7 +78,7 @@ module _ (g : Settings) (floor : ℕ) (q : inBounds g ≡ true) (h : floor ≤ l
     apart = λ k e k′ e′ i j c x. absurd (omega arith);
     openEnds = λ c a. record { key = keyOf floor 0; inside = (refl, refl); channel = omega arith };
     all = single-all (g .room);
-    many = omega (arith, length-up 0 (g .room));
+    many = omega (arith, length-up 1 (g .room));
     within = omega (arith, in-bounds g q .room .0, in-bounds g q .channels .0);
   }
 

@@ -1,4 +1,4 @@
--- The three steps keep the places: each below `places room` is used once, in the tree or as a spare one.
+-- The three steps keep the places: of those below `places room`, 0 is the root's, and each other one is used once, as a node's or as a spare one.
 use mathlib.Core.Path.{_≡_}
 use mathlib.Core.Logic.{_≢_}
 use mathlib.Core.List.{List, [], _∷_}

@@ -53,8 +53,8 @@ pub record Sound (s : State) : Type 0 where
   pub lawful : All (λ k e. Lawful (s .settings .channels) (s .floor) k e) (s .tree)
   pub apart : Apart (s .tree)
   pub openEnds : (c : ℕ) → c < s .settings .channels → OpenEnd (s .tree) c
-  -- "every spare place accounted for": each place is used once, in the tree or as a spare one
-  pub all : (z : ℕ) → uses z (s .tree) + among z (s .spares) ≡ below z (places (s .settings .room))
+  -- "every spare place accounted for": the place 0 is the root's; each other one is used once, as a node's or as a spare one
+  pub all : (z : ℕ) → same z 0 + uses z (s .tree) + among z (s .spares) ≡ below z (places (s .settings .room))
   pub many : length (s .spares) + size (s .tree) ≡ s .settings .room + 1
   -- no more voids than the room
   pub within : size (s .tree) ≤ s .settings .room

@@ -1,7 +1,7 @@
 -- A link as the memory holds it: settings, floor, the tree of its voids and the places that are spare.
 -- Three steps change it: another end for a void, a void more, a void less. Each fixes every place.
 use mathlib.Core.List.{List, [], _∷_, _++_}
-use Prim.Native.Nat.{ℕ}
+use Prim.Native.Nat.{ℕ, _+_}
 use Rattle.rule.specs.Settings.{Settings}
 use Rattle.rule.specs.Voids.{Void, Meaning}
 use Rattle.rule.specs.Key.{startOf, channelOf}
@@ -14,9 +14,9 @@ pub record State : Type 0 where
   pub tree : Tree
   pub spares : List ℕ
 
--- the places of a link: one more pair than a full tree has, so that a booking may add a void before it drops one
+-- the places of a link: the root's, which is 0, and one more than a full tree has nodes, so that a booking may add a void before it drops one
 abbrev pub places : (room : ℕ) → ℕ
-places room = room
+places room = room + 1
 
 -- ---- what a state means: its voids, from left to right
 abbrev pub voidsOf : Tree → List Void
