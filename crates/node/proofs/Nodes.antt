@@ -11,7 +11,7 @@ use Rattle.numbers.specs.Words.{word, store}
 use Rattle.numbers.proofs.WordLaws.{word-other, word-same, byte-other, length-store}
 use Rattle.shape.specs.Tree.{same}
 use Rattle.node.specs.declared.Node.{Node}
-use Rattle.node.specs.Layout.{base, Within, Fits, nodeAt, sumsSaved, saved, linksOf, overNode, withSums, seatOf, Saved, Over}
+use Rattle.node.specs.Layout.{base, Within, Fits, nodeAt, sumsSaved, saved, linksOf, overNode, withSums, seatOf, Saved, Copied, Over}
 use Rattle.shape.specs.PlaceLaws.{same-none}
 
 -- a node's fields are words
@@ -118,10 +118,15 @@ pub saved-of : (m m1 m2 : List ℕ) (p : ℕ) (n : Node) → m1 ≡ sumsSaved m 
 unfolding saved
 saved-of m m1 m2 p n e1 e2 i f w = rw (e2, e1) (saved-saved m p n i f w)
 
--- a node that is in memory fits
-pub node-fits : (m : List ℕ) (p : ℕ) → word m (base p + 3) < 2 ^ 64 → Fits (nodeAt m p)
-unfolding nodeAt
-node-fits m p h = omega arith
+-- ---- a node copied: the sums and the links of another
+pub copied-of : (m m1 m2 : List ℕ) (s s′ links : ℕ) (n : Node) → n .lo ≡ word m (base s) → n .top ≡ word m (base s + 1) → n .low ≡ word m (base s + 2)
+    → links ≡ word m (base s + 3) → links < 2 ^ 64 → Words n → m1 ≡ sumsSaved m s′ n → m2 ≡ store m1 (base s′ + 3) links → Within m s′ → Copied s s′ m m2
+unfolding nodeAt sumsSaved
+copied-of m m1 m2 s s′ links n el et ew ek k w e1 e2 i =
+    let f : Fits (nodeAt m s) = omega arith in
+    let v : Words (nodeAt m s) = record { lo = omega (arith, w .lo); top = omega (arith, w .top); low = omega (arith, w .low) } in
+    let o : links ≡ linksOf (nodeAt m s) = omega arith in
+    saved-of m m1 m2 s′ (nodeAt m s) (rw (← el, ← et, ← ew) e1) (rw (← o) e2) i f v
 
 -- ---- a node over two others
 pub mended : (m m′ : List ℕ) (p q : ℕ) (x y n : Node) → x ≡ nodeAt m (2 * q) → y ≡ nodeAt m (2 * q + 1) → n ≡ overNode x y q → Saved p n m m′ → Over p q m m′

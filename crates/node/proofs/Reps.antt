@@ -9,7 +9,7 @@ use lib.ListN.{length}
 use Rattle.shape.specs.Tree.{Tree, leaf, node, height, same, uses}
 use Rattle.node.specs.declared.Node.{Node}
 use Rattle.node.specs.Layout.{Within, nodeAt, leafNode, Kept, Saved, Over, Copied, Mendable}
-use Rattle.node.specs.Rep.{nodeOf, Stands, treeAt}
+use Rattle.node.specs.Rep.{nodeOf, Rep, Stands, treeAt}
 use Rattle.shape.specs.PlaceLaws.{same-self, same-other}
 use Rattle.node.proofs.Frames.{node-kept, within-kept}
 
@@ -17,27 +17,33 @@ abbrev pub heightOf : Node → ℕ
 heightOf n = n .height
 
 -- ---- what a tree's own node says
+rep-at : (t : Tree) (m : List ℕ) (s : ℕ) → Rep m s t → nodeAt m s ≡ nodeOf t
+unfolding Rep
+rep-at (leaf k e) m s f = f .1
+rep-at (node q a b) m s f = f .1
+
+rep-within : (t : Tree) (m : List ℕ) (s : ℕ) → Rep m s t → Within m s
+unfolding Rep
+rep-within (leaf k e) m s f = f .0
+rep-within (node q a b) m s f = f .0
+
 pub seen : {m : List ℕ} {s : ℕ} {t : Tree} → Stands m s t → nodeAt m s ≡ nodeOf t
-unfolding Stands
-seen {m} {s} {leaf k e} f = f .1
-seen {m} {s} {node q a b} f = f .1
+seen {m} {s} {t} f = rep-at t m s (f .rep)
 
 pub within : {m : List ℕ} {s : ℕ} {t : Tree} → Stands m s t → Within m s
-unfolding Stands
-within {m} {s} {leaf k e} f = f .0
-within {m} {s} {node q a b} f = f .0
+within {m} {s} {t} f = rep-within t m s (f .rep)
 
 pub tall : {m : List ℕ} {s : ℕ} {t : Tree} → Stands m s t → nodeAt m s .height ≡ height t
 tall f = ap heightOf (seen f)
 
 -- ---- a node's children
 pub left-stands : {m : List ℕ} {s q : ℕ} {a b : Tree} → Stands m s (node q a b) → Stands m (2 * q) a
-unfolding Stands
-left-stands f = f .2
+unfolding Rep
+left-stands f = record { rep = f .rep .2 }
 
 pub right-stands : {m : List ℕ} {s q : ℕ} {a b : Tree} → Stands m s (node q a b) → Stands m (2 * q + 1) b
-unfolding Stands
-right-stands f = f .3
+unfolding Rep
+right-stands f = record { rep = f .rep .3 }
 
 -- the place 0 is no node's: the root's seat is there
 pub stands-apart : (t : Tree) (m : List ℕ) (s : ℕ) → Stands m s t → uses 0 t ≡ 0
@@ -47,24 +53,27 @@ stands-apart (node q a b) m s f =
     omega (arith, stands-apart a m (2 * q) (left-stands f), stands-apart b m (2 * q + 1) (right-stands f), same-other 0 q (λ e. omega (arith, w .1)))
 
 -- ---- what moves a tree: its node is at another seat, and its places are as they were
-pub stands-moved : (t : Tree) (m m′ : List ℕ) (s s′ : ℕ) → length m′ ≡ length m → Within m s′ → nodeAt m′ s′ ≡ nodeAt m s
-    → ((z : ℕ) → 1 ≤ uses (z / 2) t → nodeAt m′ z ≡ nodeAt m z) → Stands m s t → Stands m′ s′ t
-unfolding Stands
-stands-moved (leaf k e) m m′ s s′ q w n f r = (omega (arith, w), n ∙ r .1)
-stands-moved (node p a b) m m′ s s′ q w n f r =
+rep-moved : (t : Tree) (m m′ : List ℕ) (s s′ : ℕ) → length m′ ≡ length m → Within m s′ → nodeAt m′ s′ ≡ nodeAt m s
+    → ((z : ℕ) → 1 ≤ uses (z / 2) t → nodeAt m′ z ≡ nodeAt m z) → Rep m s t → Rep m′ s′ t
+unfolding Rep
+rep-moved (leaf k e) m m′ s s′ q w n f r = (omega (arith, w), n ∙ r .1)
+rep-moved (node p a b) m m′ s s′ q w n f r =
     let l : (2 * p) / 2 ≡ p = omega arith in
-    let h : (2 * p + 1) / 2 ≡ p = omega arith in
-    (
+    let h : (2 * p + 1) / 2 ≡ p = omega arith in (
       omega (arith, w),
       n ∙ r .1,
-      stands-moved a m m′ (2 * p) (2 * p) q (within (r .2)) (f (2 * p) (rw l (omega (arith, same-self p)))) (λ z u. f z (omega arith)) (r .2),
-      stands-moved b m m′ (2 * p + 1) (2 * p + 1) q (within (r .3)) (f (2 * p + 1) (rw h (omega (arith, same-self p)))) (λ z u. f z (omega arith)) (r .3),
+      rep-moved a m m′ (2 * p) (2 * p) q (rep-within a m (2 * p) (r .2)) (f (2 * p) (rw l (omega (arith, same-self p)))) (λ z u. f z (omega arith)) (r .2),
+      rep-moved b m m′ (2 * p + 1) (2 * p + 1) q (rep-within b m (2 * p + 1) (r .3)) (f (2 * p + 1) (rw h (omega (arith, same-self p)))) (λ z u. f z (omega arith)) (r .3),
     )
+
+pub stands-moved : {m m′ : List ℕ} {s s′ : ℕ} {t : Tree} → length m′ ≡ length m → Within m s′ → nodeAt m′ s′ ≡ nodeAt m s
+    → ((z : ℕ) → 1 ≤ uses (z / 2) t → nodeAt m′ z ≡ nodeAt m z) → Stands m s t → Stands m′ s′ t
+stands-moved {m} {m′} {s} {s′} {t} q w n f r = record { rep = rep-moved t m m′ s s′ q w n f (r .rep) }
 
 -- what keeps one
 pub stands-nodes : {m m′ : List ℕ} {s : ℕ} {t : Tree} → length m′ ≡ length m → nodeAt m′ s ≡ nodeAt m s
     → ((z : ℕ) → 1 ≤ uses (z / 2) t → nodeAt m′ z ≡ nodeAt m z) → Stands m s t → Stands m′ s t
-stands-nodes {m} {m′} {s} {t} q n f r = stands-moved t m m′ s s q (within r) n f r
+stands-nodes q n f r = stands-moved q (within r) n f r
 
 -- by the seats that were written
 pub stands-frame : {n : ℕ → ℕ} {m m′ : List ℕ} {s : ℕ} {t : Tree} → Kept n m m′ → n s ≡ 0 → ((z : ℕ) → 1 ≤ uses (z / 2) t → n z ≡ 0) → Stands m s t → Stands m′ s t
@@ -72,15 +81,15 @@ stands-frame {n} {m} {m′} {s} {t} k o h r = stands-nodes (k .len) (node-kept n
 
 -- a tree copied to another seat, which is none of its own
 pub copied-stands : {m m′ : List ℕ} {s s′ : ℕ} {t : Tree} → Copied s s′ m m′ → Within m s′ → uses (s′ / 2) t ≡ 0 → Stands m s t → Stands m′ s′ t
-copied-stands {m} {m′} {s} {s′} {t} c w o r = stands-moved t m m′ s s′ (c .kept .len) w (c .at) (λ z u. node-kept _ m m′ (c .kept) z (off z u)) r
+copied-stands {m} {m′} {s} {s′} {t} c w o r = stands-moved (c .kept .len) w (c .at) (λ z u. node-kept _ m m′ (c .kept) z (off z u)) r
   where
     off : (z : ℕ) → 1 ≤ uses (z / 2) t → same z s′ ≡ 0
     off z u = same-other z s′ (λ e. omega (arith, ap (λ (y : ℕ). uses (y / 2) t) e))
 
 -- ---- what makes one
 pub leaf-stands : {m m′ : List ℕ} {s k e : ℕ} → Within m s → Saved s (leafNode k e) m m′ → Stands m′ s (leaf k e)
-unfolding Stands
-leaf-stands {m} {m′} {s} {k} {e} w o = (within-kept _ m m′ (o .kept) s w, o .at)
+unfolding Rep
+leaf-stands {m} {m′} {s} {k} {e} w o = record { rep = (within-kept _ m m′ (o .kept) s w, o .at) }
 
 -- a tree beside whose seats one other was written
 pub stands-beside : {m m′ : List ℕ} {s x : ℕ} {t : Tree} → Kept (λ z. same z s) m m′ → x ≢ s → uses (s / 2) t ≡ 0 → Stands m x t → Stands m′ x t
@@ -91,21 +100,24 @@ stands-beside {m} {m′} {s} {x} {t} k d o r = stands-frame k (same-other x s d)
 
 pub node-stands : {m m′ : List ℕ} {s q : ℕ} {a b : Tree} → Within m s → Over s q m m′ → Stands m (2 * q) a → Stands m (2 * q + 1) b
     → s / 2 ≢ q → uses (s / 2) a ≡ 0 → uses (s / 2) b ≡ 0 → Stands m′ s (node q a b)
-unfolding Stands
-node-stands {m} {m′} {s} {q} {a} {b} w o f g d za zb = (
-  within-kept _ m m′ (o .kept) s w,
-  o .at ∙ (rw (seen f, seen g)),
-  stands-beside (o .kept) (λ e. d (omega arith)) za f,
-  stands-beside (o .kept) (λ e. d (omega arith)) zb g,
-)
+unfolding Rep
+node-stands {m} {m′} {s} {q} {a} {b} w o f g d za zb =
+    record {
+      rep = (
+        within-kept _ m m′ (o .kept) s w,
+        o .at ∙ (rw (seen f, seen g)),
+        stands-beside (o .kept) (λ e. d (omega arith)) za f .rep,
+        stands-beside (o .kept) (λ e. d (omega arith)) zb g .rep,
+      );
+    }
 
 pub mendable : {m : List ℕ} {s q : ℕ} {a b : Tree} → Within m s → Stands m (2 * q) a → Stands m (2 * q + 1) b → height a < 4294967295 → height b < 4294967295 → Mendable m s q
 mendable w f g ha hb =
     record { at = w; left = within f; right = within g; low-left = omega (arith, tall f); low-right = omega (arith, tall g) }
 
 -- ---- a seat has one tree
-decode : (t : Tree) (k : ℕ) (m : List ℕ) (s : ℕ) → Stands m s t → height t ≤ k → treeAt k m s ≡ t
-unfolding treeAt Stands
+decode : (t : Tree) (k : ℕ) (m : List ℕ) (s : ℕ) → Rep m s t → height t ≤ k → treeAt k m s ≡ t
+unfolding treeAt Rep
 decode (leaf x e) zero m s r h = rw (r .1)
 decode (leaf x e) (suc k) m s r h = rw (r .1)
 decode (node q a b) zero m s r h = absurd (omega arith)
@@ -117,4 +129,4 @@ decode (node q a b) (suc k) m s r h =
 pub one-tree : {m : List ℕ} {s : ℕ} {a b : Tree} → Stands m s a → Stands m s b → a ≡ b
 one-tree {m} {s} {a} {b} f g =
     let k = max (height a) (height b) in
-    sym (decode a k m s f (omega arith)) ∙ decode b k m s g (omega arith)
+    sym (decode a k m s (f .rep) (omega arith)) ∙ decode b k m s (g .rep) (omega arith)

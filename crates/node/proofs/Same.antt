@@ -14,7 +14,7 @@ use Rattle.node.specs.declared.Node.{Node}
 use Rattle.node.specs.Layout.{base, nodeAt, linksOf, seatOf, Kept}
 use Rattle.node.specs.Rep.{Stands}
 use Rattle.shape.specs.PlaceLaws.{same-is}
-use Rattle.node.proofs.Reps.{seen}
+use Rattle.node.proofs.Reps.{seen, left-stands, right-stands}
 
 abbrev pub Bytes : List ℕ → Type 0
 Bytes m = (b : ℕ) → getD m b 0 < 256
@@ -60,15 +60,14 @@ pub own-same : (t : Tree) (m m′ : List ℕ) (s : ℕ) → Stands m s t → Sta
 own-same t m m′ s r r′ = seen r ∙ sym (seen r′)
 
 pub stands-same : (t : Tree) (m m′ : List ℕ) (s z : ℕ) → Stands m s t → Stands m′ s t → 1 ≤ uses (z / 2) t → nodeAt m z ≡ nodeAt m′ z
-unfolding Stands
 stands-same (leaf k e) m m′ s z r r′ h = absurd (omega arith)
 stands-same (node q a b) m m′ s z r r′ h = elim (decLt 0 (uses (z / 2) a)) [
-  | yes y ↦ stands-same a m m′ (2 * q) z (r .2) (r′ .2) y
+  | yes y ↦ stands-same a m m′ (2 * q) z (left-stands r) (left-stands r′) y
   | no y ↦ elim (decLt 0 (uses (z / 2) b)) [
-    | yes x ↦ stands-same b m m′ (2 * q + 1) z (r .3) (r′ .3) x
+    | yes x ↦ stands-same b m m′ (2 * q + 1) z (right-stands r) (right-stands r′) x
     | no x ↦ let g : z / 2 ≡ q = same-is (z / 2) q (omega arith) in elim (decLt (2 * q) z) [
-      | yes l ↦ let e : z ≡ 2 * q + 1 = omega arith in rw e (own-same b m m′ (2 * q + 1) (r .3) (r′ .3))
-      | no l ↦ let e : z ≡ 2 * q = omega arith in rw e (own-same a m m′ (2 * q) (r .2) (r′ .2))
+      | yes l ↦ let e : z ≡ 2 * q + 1 = omega arith in rw e (own-same b m m′ (2 * q + 1) (right-stands r) (right-stands r′))
+      | no l ↦ let e : z ≡ 2 * q = omega arith in rw e (own-same a m m′ (2 * q) (left-stands r) (left-stands r′))
     ]
   ]
 ]

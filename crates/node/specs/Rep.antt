@@ -14,9 +14,12 @@ abbrev pub nodeOf : Tree → Node
 nodeOf t = record { height = height t; lo = lo t; top = top t; low = low t; place = place t }
 
 -- the tree is in the memory, its own node at seat s and the children of each node at that node's place
-unfoldable pub Stands : List ℕ → (s : ℕ) → Tree → Type 0
-Stands m s (leaf k e) = Within m s × (nodeAt m s ≡ nodeOf (leaf k e))
-Stands m s (node q l r) = Within m s × (nodeAt m s ≡ nodeOf (node q l r)) × Stands m (2 * q) l × Stands m (2 * q + 1) r
+unfoldable pub Rep : List ℕ → (s : ℕ) → Tree → Type 0
+Rep m s (leaf k e) = Within m s × (nodeAt m s ≡ nodeOf (leaf k e))
+Rep m s (node q l r) = Within m s × (nodeAt m s ≡ nodeOf (node q l r)) × Rep m (2 * q) l × Rep m (2 * q + 1) r
+
+pub record Stands (m : List ℕ) (s : ℕ) (t : Tree) : Type 0 where
+  pub rep : Rep m s t
 
 -- the tree that the memory has at seat s, at most k high
 unfoldable pub treeAt : (k : ℕ) → List ℕ → (s : ℕ) → Tree

@@ -83,6 +83,16 @@ pub fn copy(mem: &mut [u8], from: usize, to: usize)
     requires { ⌜ Within (now mem) to ⌝ }
     ensures { λ _. ⌜ Copied from to (now (mem .entry)) (now (mem .exit)) ⌝ }
 {
-    let n = load(mem, from);
-    save(mem, to, n);
+    let a = NODE_WORDS * from + BEFORE_SEATS;
+    let links = numbers::words::get(mem, a + 3);
+    let sums = Node {
+        height: 0,
+        lo: numbers::words::get(mem, a),
+        top: numbers::words::get(mem, a + 1),
+        low: numbers::words::get(mem, a + 2),
+        place: 0,
+    };
+    save_sums(mem, to, sums);
+    let b = NODE_WORDS * to + BEFORE_SEATS;
+    numbers::words::put(mem, b + 3, links);
 }

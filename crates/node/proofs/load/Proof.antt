@@ -30,12 +30,6 @@ add-get-3 c = search needs
 get-requires-4 : tie.Need-get-requires-4
 get-requires-4 c κs = search needs
 
-add-get-4 : tie.Need-add-get-4
-add-get-4 c = search needs
-
-get-requires-5 : tie.Need-get-requires-5
-get-requires-5 c κs = search needs
-
 returns : tie.Need-returns
 unfolding nodeAt
 returns c = cc
@@ -53,6 +47,4 @@ load-spec =
     get-requires-3
     add-get-3
     get-requires-4
-    add-get-4
-    get-requires-5
     returns)

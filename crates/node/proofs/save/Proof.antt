@@ -20,14 +20,8 @@ add-put c = search needs
 mul-put : tie.Need-mul-put
 mul-put c = search needs
 
-mul-put-2 : tie.Need-mul-put-2
-mul-put-2 c = search needs
-
 add-put-2 : tie.Need-add-put-2
 add-put-2 c = search needs
-
-add-put-3 : tie.Need-add-put-3
-add-put-3 c = search needs
 
 put-requires : tie.Need-put-requires
 put-requires c κs = search needs
@@ -37,9 +31,9 @@ same-length c = search needs
 
 returns : tie.Need-returns
 returns c =
-    let start = c .before .before .before .before .before .before .before .before .before .before .before .before in
-    let at-sums = c .before .before .before .before .before .before .before .before .before in
-    saved-of _ _ _ _ _ (at-sums .save-sums .ensures .0) (cc) (start .pre .0) (start .pre .1) (record { lo = omega (arith, start .good); split = omega (arith, start .good); top = omega (arith, start .good); low = omega (arith, start .good) })
+    let start = c .before .before .before .before .before .before .before .before .before .before .before in
+    let at-sums = c .before .before .before .before .before .before .before .before in
+    saved-of _ _ _ _ _ (at-sums .save-sums .ensures .0) (cc) (start .pre .0) (start .pre .1) (record { lo = omega (arith, start .good); top = omega (arith, start .good); low = omega (arith, start .good) })
 
 pub save-spec : {M : Type 1} → statement M
 save-spec =
@@ -50,9 +44,7 @@ save-spec =
     add-b
     add-put
     mul-put
-    mul-put-2
     add-put-2
-    add-put-3
     put-requires
     same-length
     returns)

@@ -27,23 +27,17 @@ add-put-2 c = search needs
 put-requires-3 : tie.Need-put-requires-3
 put-requires-3 c κs = search needs
 
-add-put-3 : tie.Need-add-put-3
-add-put-3 c = search needs
-
-put-requires-4 : tie.Need-put-requires-4
-put-requires-4 c κs = search needs
-
 same-length : tie.Need-same-length
 same-length c = search needs
 
-whole : (c : tie.After-slice-known5) → c .before .before .put4 .last .0 ≡ sumsSaved (c .before .before .before .before .before .before .before .before .before .before .before .before .before .before .before .before .before .args .mem .now) (c .before .before .before .before .before .before .before .before .before .before .before .before .before .before .before .before .before .args .p) (c .before .before .before .before .before .before .before .before .before .before .before .before .before .before .before .before .before .args .n)  -- Need-returns
+whole : (c : tie.After-slice-known4) → c .before .before .put3 .last .0 ≡ sumsSaved (c .before .before .before .before .before .before .before .before .before .before .before .before .before .args .mem .now) (c .before .before .before .before .before .before .before .before .before .before .before .before .before .args .s) (c .before .before .before .before .before .before .before .before .before .before .before .before .before .args .n)  -- Need-returns
 unfolding sumsSaved
 whole c = cc
 
 returns : tie.Need-returns
 returns c =
-    let s = c .before .before .before .before .before .before .before .before .before .before .before .before .before .before .before .before .before in
-    (whole c, rw (whole c) (sums-written (s .args .mem .now) (s .args .p) (s .args .n) (s .pre) (record { lo = omega (arith, s .good); split = omega (arith, s .good); top = omega (arith, s .good); low = omega (arith, s .good) })))
+    let s = c .before .before .before .before .before .before .before .before .before .before .before .before .before in
+    (whole c, rw (whole c) (sums-written (s .args .mem .now) (s .args .s) (s .args .n) (s .pre) (record { lo = omega (arith, s .good); top = omega (arith, s .good); low = omega (arith, s .good) })))
 
 pub save-sums-spec : {M : Type 1} → statement M
 save-sums-spec =
@@ -56,7 +50,5 @@ save-sums-spec =
     put-requires-2
     add-put-2
     put-requires-3
-    add-put-3
-    put-requires-4
     same-length
     returns)
