@@ -8,7 +8,6 @@ use Prim.Native.Nat.{ℕ, _+_, _*_, _-_, _/_, _%_, _≤_, _<_, min, max}
 use lib.ListN.{length, getD}
 use Rattle.numbers.specs.Words.{word, store}
 use Rattle.shape.specs.Tree.{same}
-use Rattle.shape.specs.Side.{near, far}
 use Rattle.node.specs.declared.Node.{Node}
 
 -- the words of the header, and of each node after it; there is no node at seat 0: the header ends where seat 1 begins

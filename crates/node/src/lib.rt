@@ -2,6 +2,7 @@
 // Above this crate nobody speaks of a node's words: only of the node at a seat.
 ghost use mathlib.Core.Path.{_≡_};
 ghost use Prim.Native.Nat.{_+_, _*_, _≤_, _<_};
+ghost use Rattle.shape.specs.Side.{near, far};
 ghost use Rattle.node.specs.Layout.{Within, Fits, nodeAt, leafNode, withSums, sumsSaved, Saved, Copied};
 
 // The layout: the words and bytes of the header, and those of each node after it. The first seat is 1: the header ends there.
@@ -37,6 +38,23 @@ pub fn leaf(key: u64, end: u64) -> Node
         low: end,
         place: 0,
     }
+}
+
+// Of the two seats at place q, the one on the side named, and the other.
+pub fn near(left: bool, q: u64) -> usize
+    requires { ⌜ q < 4294967296 ⌝ }
+    ensures { λ s. ⌜ s ≡ near left (2 * q) (2 * q + 1) ⌝ }
+{
+    let first = 2 * q as usize;
+    if left { first } else { first + 1 }
+}
+
+pub fn far(left: bool, q: u64) -> usize
+    requires { ⌜ q < 4294967296 ⌝ }
+    ensures { λ s. ⌜ s ≡ far left (2 * q) (2 * q + 1) ⌝ }
+{
+    let first = 2 * q as usize;
+    if left { first + 1 } else { first }
 }
 
 // The node at seat s.
