@@ -1,34 +1,31 @@
--- The laws of a node summed up anew: when nothing changes, and that height and places never do.
+-- The laws of a node summed up anew: when nothing changes, and that height and place never do.
 use mathlib.Core.Path.{_≡_, refl, sym, ap, _∙_}
 use mathlib.Core.Bool.{true, false, false≢true}
 use mathlib.Core.List.{List}
-use Prim.Native.Nat.{ℕ}
+use Prim.Native.Nat.{ℕ, _+_, _*_}
 use Rattle.node.specs.declared.Node.{Node}
-use Rattle.node.specs.Layout.{Within, nodeAt, summedNode, withSums, SameSums, Saved, Summable, Sums}
+use Rattle.node.specs.Layout.{nodeAt, summedNode, withSums, SameSums, Saved, Sums}
 use Rattle.node.proofs.Frames.{kept-none}
 
 -- a node that says the same as its children summed up is what summing it up gives
 alike-is : (n x y : Node) → SameSums n (summedNode n x y) → n ≡ summedNode n x y
-alike-is n x y a = rw (← a .0, ← a .1, ← a .2, ← a .3) refl
+alike-is n x y a = rw (← a .0, ← a .1, ← a .2) refl
 
-module _ (m : List ℕ) (p : ℕ) (n x y s : Node) (en : n ≡ nodeAt m p) (ex : x ≡ nodeAt m (n .left)) (ey : y ≡ nodeAt m (n .right)) (es : s ≡ summedNode n x y) where
-  -- the children are inside
-  pub left-in : Summable m p → Within m (n .left)
-  left-in S = rw en (S .left)
+-- a node that was read at a seat, for which its number was worked out
+pub read-at : (m : List ℕ) {n : Node} {s t : ℕ} → s ≡ t → n ≡ nodeAt m s → n ≡ nodeAt m t
+read-at m e r = rw e at r
 
-  pub right-in : Summable m p → Within m (n .right)
-  right-in S = rw en (S .right)
-
-  is : s ≡ summedNode (nodeAt m p) (nodeAt m (nodeAt m p .left)) (nodeAt m (nodeAt m p .right))
+module _ (m : List ℕ) (p q : ℕ) (n x y s : Node) (en : n ≡ nodeAt m p) (ex : x ≡ nodeAt m (2 * q)) (ey : y ≡ nodeAt m (2 * q + 1)) (es : s ≡ summedNode n x y) where
+  is : s ≡ summedNode (nodeAt m p) (nodeAt m (2 * q)) (nodeAt m (2 * q + 1))
   is = rw (← en, ← ex, ← ey) es
 
-  pub sums-none : SameSums n s → Sums p false m m
+  pub sums-none : SameSums n s → Sums p q false m m
   sums-none a =
       let n-is : n ≡ s = alike-is n x y (rw es at a) ∙ sym es in
       record { summed = record { at = sym en ∙ (n-is ∙ is); kept = kept-none _ m }; still = λ h. refl; moved = λ h. absurd (false≢true h) }
 
-  pub sums-saved : (SameSums n s → ⊥) → (m′ : List ℕ) → Saved p (withSums s (nodeAt m p)) m m′ → Sums p true m m′
+  pub sums-saved : (SameSums n s → ⊥) → (m′ : List ℕ) → Saved p (withSums s (nodeAt m p)) m m′ → Sums p q true m m′
   sums-saved other m′ o =
       let at : nodeAt m′ p ≡ s = o .at ∙ (rw (← en, es) refl) in
-      let same : nodeAt m′ p ≡ nodeAt m p → SameSums n s = λ e. let q : n ≡ s = en ∙ (sym e ∙ at) in (ap (λ (z : Node). z .lo) q, ap (λ (z : Node). z .split) q, ap (λ (z : Node). z .top) q, ap (λ (z : Node). z .low) q) in
+      let same : nodeAt m′ p ≡ nodeAt m p → SameSums n s = λ e. let q : n ≡ s = en ∙ (sym e ∙ at) in (ap (λ (z : Node). z .lo) q, ap (λ (z : Node). z .top) q, ap (λ (z : Node). z .low) q) in
       record { summed = record { at = at ∙ is; kept = o .kept }; still = λ h. absurd (false≢true (sym h)); moved = λ h e. other (same e) }

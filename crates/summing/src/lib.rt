@@ -6,7 +6,9 @@ ghost use mathlib.Core.Logic.{_↔_};
 ghost use Prim.Native.Nat.{_<_};
 ghost use Rattle.node.specs.Layout.{overNode, summedNode, SameSums, Over, Mendable, Summable, Sums};
 use node::Node;
+use node::far;
 use node::load;
+use node::near;
 use node::save;
 use node::save_sums;
 use numbers::pairs::larger;
@@ -19,38 +21,34 @@ fn summed(n: Node, x: Node, y: Node) -> Node
     Node {
         height: n.height,
         lo: x.lo,
-        split: y.lo,
         top: larger(x.top, y.top),
         low: smaller(x.low, y.low),
-        left: n.left,
-        right: n.right,
+        place: n.place,
     }
 }
 
-// The node over two others, which stand at l and r.
-fn over(x: Node, y: Node, l: u64, r: u64) -> Node
+// The node over two others, which stand at place q.
+fn over(x: Node, y: Node, q: u64) -> Node
     requires { ⌜ (x .height < 4294967295) × (y .height < 4294967295) ⌝ }
-    ensures { λ n. ⌜ n ≡ overNode x y l r ⌝ }
+    ensures { λ n. ⌜ n ≡ overNode x y q ⌝ }
 {
     let bare = Node {
         height: larger(x.height, y.height) + 1,
         lo: 0,
-        split: 0,
         top: 0,
         low: 0,
-        left: l,
-        right: r,
+        place: q,
     };
     summed(bare, x, y)
 }
 
-// Writes the node p over the nodes l and r.
-pub fn mend(mem: &mut [u8], p: usize, l: usize, r: usize)
-    requires { ⌜ Mendable (now mem) p l r ⌝ }
-    ensures { λ _. ⌜ Over p l r (now (mem .entry)) (now (mem .exit)) ⌝ }
+// Writes the node at seat s over the nodes at place q.
+pub fn mend(mem: &mut [u8], s: usize, q: u64)
+    requires { ⌜ Mendable (now mem) s q ⌝ }
+    ensures { λ _. ⌜ Over s q (now (mem .entry)) (now (mem .exit)) ⌝ }
 {
-    let n = over(load(mem, l), load(mem, r), l as u64, r as u64);
-    save(mem, p, n);
+    let n = over(load(mem, near(true, q)), load(mem, far(true, q)), q);
+    save(mem, s, n);
 }
 
 // Whether two nodes say the same of what is below them.
@@ -60,27 +58,24 @@ fn alike(x: Node, y: Node) -> bool
     if x.lo != y.lo {
         return false;
     }
-    if x.split != y.split {
-        return false;
-    }
     if x.top != y.top {
         return false;
     }
     x.low == y.low
 }
 
-// Sums up the children of the node p anew. Whether that changed anything.
-pub fn sum_up(mem: &mut [u8], p: usize) -> bool
-    requires { ⌜ Summable (now mem) p ⌝ }
-    ensures { λ b. ⌜ Sums p b (now (mem .entry)) (now (mem .exit)) ⌝ }
+// Sums up the nodes at place q anew, in the node at seat s over them. Whether that changed anything.
+pub fn sum_up(mem: &mut [u8], s: usize, q: u64) -> bool
+    requires { ⌜ Summable (now mem) s q ⌝ }
+    ensures { λ b. ⌜ Sums s q b (now (mem .entry)) (now (mem .exit)) ⌝ }
 {
-    let n = load(mem, p);
-    let x = load(mem, n.left as usize);
-    let y = load(mem, n.right as usize);
-    let s = summed(n, x, y);
-    if alike(n, s) {
+    let n = load(mem, s);
+    let x = load(mem, near(true, q));
+    let y = load(mem, far(true, q));
+    let t = summed(n, x, y);
+    if alike(n, t) {
         return false;
     }
-    save_sums(mem, p, s);
+    save_sums(mem, s, t);
     true
 }

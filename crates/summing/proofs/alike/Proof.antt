@@ -10,10 +10,7 @@ returns-2 : tie.Need-returns-2
 returns-2 c = ((λ h. absurd (false≢true h)), (λ a. absurd (c .if2 .taken (a .1))))
 
 returns-3 : tie.Need-returns-3
-returns-3 c = ((λ h. absurd (false≢true h)), (λ a. absurd (c .if3 .taken (a .2))))
-
-returns-4 : tie.Need-returns-4
-returns-4 c = ((λ h. (c .before .before .before .before .before .before .before .before .if1 .left, c .before .before .before .before .before .if2 .left, c .before .before .if3 .left, eqb-true _ _ h)), (λ a. eq-eqb _ _ (a .3)))
+returns-3 c = ((λ h. (c .before .before .before .before .before .if1 .left, c .before .before .if2 .left, eqb-true _ _ h)), (λ a. eq-eqb _ _ (a .2)))
 
 pub alike-spec : {M : Type 1} → statement M
-alike-spec = tie.close (tie.spec returns returns-2 returns-3 returns-4)
+alike-spec = tie.close (tie.spec returns returns-2 returns-3)

@@ -7,8 +7,8 @@ use Rattle.summing.proofs.over.Tie as tie
 larger-requires : tie.Need-larger-requires
 larger-requires c κs = search needs
 
-add-t7 : tie.Need-add-t7
-add-t7 c = search needs
+add-t6 : tie.Need-add-t6
+add-t6 c = search needs
 
 summed-requires : tie.Need-summed-requires
 summed-requires c κs = search needs
@@ -17,4 +17,4 @@ returns : tie.Need-returns
 returns c = c .summed .ensures ∙ (rw (c .before .larger .ensures))
 
 pub over-spec : {M : Type 1} → statement M
-over-spec = tie.close (tie.spec larger-requires add-t7 summed-requires returns)
+over-spec = tie.close (tie.spec larger-requires add-t6 summed-requires returns)
