@@ -1,32 +1,36 @@
--- The steps that every function of the tree takes: a node is read, and its children stand where it says; a node is written over two
--- trees. Once for both sides.
-use mathlib.Core.Path.{_≡_, sym, ap, _∙_}
+-- The steps that every function of the tree takes: a seat is written, the trees beside it stay; a node is written over two trees.
+-- Once for both sides.
+use mathlib.Core.Path.{_≡_, refl, sym, ap, _∙_}
+use mathlib.Core.Logic.{_≢_}
 use mathlib.Core.Bool.{Bool, true, false}
 use mathlib.Core.List.{List}
-use Prim.Native.Nat.{ℕ, _+_, max}
+use Prim.Native.Nat.{ℕ, _+_, _*_, _/_, _<_, _≤_}
 use native.Mathlib.Omega.{arith}
-use Rattle.shape.specs.Tree.{Tree, node, place, height, lo, same, uses, inners}
+use Rattle.shape.specs.Tree.{Tree, node, height, same, uses}
 use Rattle.shape.specs.Side.{over, near, far}
 use Rattle.node.specs.declared.Node.{Node}
-use Rattle.node.specs.Layout.{Within, Fits, nodeAt, leafNode, Saved, Mendable}
-use Rattle.node.specs.Rep.{nodeOf, Rep, Stands}
-use Rattle.shape.specs.SideLaws.{weight-over, weight-sides, height-sides}
-use Rattle.shape.specs.PlaceLaws.{same-self}
-use Rattle.node.proofs.Reps.{seen, within, node-stands, mendable}
-use Rattle.turning.specs.Turns.{OverOn, Two, Both}
+use Rattle.node.specs.Layout.{Within, Fits, nodeAt, leafNode, Saved, Over, Copied, Mendable}
+use Rattle.node.specs.Rep.{Stands}
+use Rattle.shape.specs.SideLaws.{weight-over, weight-sides}
+use Rattle.shape.specs.PlaceLaws.{same-self, same-other, same-none}
+use Rattle.node.proofs.Reps.{within, mendable}
+use Rattle.node.proofs.Seats.{nearSeat, farSeat, near-stands, far-stands, over-stands}
+use Rattle.turning.specs.Turns.{Two, Both}
 
 -- ---- counting over a side
 pub uses-over : (z : ℕ) (s : Bool) (p : ℕ) (a b : Tree) → uses z (over s p a b) ≡ same z p + uses z a + uses z b
-uses-over z s p a b = weight-over s p a b (λ p k e. same z p) (same z)
-
-pub inners-over : (z : ℕ) (s : Bool) (p : ℕ) (a b : Tree) → inners z (over s p a b) ≡ same z p + inners z a + inners z b
-inners-over z s p a b = weight-over s p a b (λ p k e. 0) (same z)
+uses-over z s p a b = weight-over s p a b (λ k e. 0) (same z)
 
 pub uses-sides : (z : ℕ) (s : Bool) (l r : Tree) → uses z (near s l r) + uses z (far s l r) ≡ uses z l + uses z r
-uses-sides z = weight-sides (λ p k e. same z p) (same z)
+uses-sides z = weight-sides (λ k e. 0) (same z)
 
-pub inners-sides : (z : ℕ) (s : Bool) (l r : Tree) → inners z (near s l r) + inners z (far s l r) ≡ inners z l + inners z r
-inners-sides z = weight-sides (λ p k e. 0) (same z)
+-- ---- seats of different places
+pub apart : {x y p q : ℕ} → x / 2 ≡ p → y / 2 ≡ q → p ≢ q → x ≢ y
+apart h k d e = d (sym h ∙ (ap (λ z. z / 2) e ∙ k))
+
+-- a seat of a place that z is not at
+pub seat-free : (z u q : ℕ) → u / 2 ≡ q → same (z / 2) q ≡ 0 → same z u ≡ 0
+seat-free z u q h f = same-other z u (λ e. same-none (z / 2) q f (ap (λ y. y / 2) e ∙ h))
 
 -- ---- a leaf's node
 pub leaf-fits : {n : Node} {k e : ℕ} → n ≡ leafNode k e → Fits n
@@ -36,58 +40,39 @@ pub saved-as : {p : ℕ} {n n′ : Node} {m m′ : List ℕ} → n ≡ n′ → 
 saved-as h o = rw (← h) o
 
 -- ---- a node over two trees
-module _ {m : List ℕ} {w x y : ℕ} {a b : Tree} (f : Two m w x y a b) where
-  pub two-mendable : Mendable m w x y
+pub mendable-on : {m : List ℕ} {t q : ℕ} {a b : Tree} (s : Bool) → Within m t → Stands m (nearSeat s q) a → Stands m (farSeat s q) b
+    → height a < 4294967295 → height b < 4294967295 → Mendable m t q
+mendable-on true w f g ha hb = mendable w f g ha hb
+mendable-on false w f g ha hb = mendable w g f hb ha
+
+module _ {m : List ℕ} {t w : ℕ} {a b : Tree} (f : Two m t w a b) where
+  pub two-mendable : Mendable m t w
   two-mendable = mendable (f .room) (f .first) (f .second) (omega (arith, f .low)) (omega (arith, f .low))
 
-  pub two-over : (s : Bool) (m1 : List ℕ) → OverOn s w x y m m1 → Stands m1 w (over s w a b)
-  two-over true m1 o =
-      node-stands (f .room) o (f .first) (f .second) (omega (arith, f .once w, same-self w)) (omega (arith, f .once w, same-self w))
-  two-over false m1 o =
-      node-stands (f .room) o (f .second) (f .first) (omega (arith, f .once w, same-self w)) (omega (arith, f .once w, same-self w))
+  pub two-apart : t / 2 ≢ w
+  two-apart e = same-none (t / 2) w (omega (arith, f .once (t / 2), same-self (t / 2))) e
 
-pub within-both : (m : List ℕ) (w x y : ℕ) → Both m w x y → Within m x × Within m y
-within-both m w x y g = (within (g .2 .first), within (g .2 .second))
+  pub two-over : (m1 : List ℕ) → Over t w m m1 → Stands m1 t (node w a b)
+  two-over m1 o =
+      let g = f .once (t / 2) in
+      over-stands true refl (f .room) o (f .first) (f .second) two-apart (omega (arith, g, same-self (t / 2))) (omega (arith, g, same-self (t / 2)))
 
--- the two the other way round
-pub two-swap : {m : List ℕ} {w x y : ℕ} {a b : Tree} → Two m w x y a b → Two m w y x b a
-two-swap f =
-    record { first = f .second; second = f .first; room = f .room; once = λ z. omega (arith, f .once z); low = omega (arith, f .low) }
+-- the two seats of the place are inside
+pub both-within : (m : List ℕ) (s : Bool) (t w : ℕ) → Both m t w → Within m (nearSeat s w) × Within m (farSeat s w)
+both-within m s t w g = (within (near-stands s w (g .2 .first) (g .2 .second)), within (far-stands s w (g .2 .first) (g .2 .second)))
 
--- ---- what a node that was read says of the tree at its place
-module _ (m : List ℕ) (t : ℕ) (n : Node) (en : n ≡ nodeAt m t) where
-  pub reads : {tr : Tree} → Stands m t tr → n ≡ nodeOf tr
-  reads f = en ∙ seen f
+pub both-small : (m : List ℕ) (t w : ℕ) → Both m t w → w < 4294967296
+both-small m t w g = let i = within (g .2 .first) in omega (arith, i .2)
 
-  pub reads-height : {tr : Tree} → Stands m t tr → n .height ≡ height tr
-  reads-height f = ap (λ (y : Node). y .height) (reads f)
+-- ---- seats as the code has them, by their equations
+pub read-at : (m : List ℕ) {n : Node} {u v : ℕ} → u ≡ v → n ≡ nodeAt m u → n ≡ nodeAt m v
+read-at m e r = rw e at r
 
-  -- an inner node's children
-  pub record Children (s : Bool) (x y q : ℕ) (l r : Tree) : Type 0 where
-    pub at : q ≡ t
-    pub near-at : Stands m x (near s l r)
-    pub far-at : Stands m y (far s l r)
-    pub split : n .split ≡ lo r
-    pub high : max (height (near s l r)) (height (far s l r)) + 1 ≡ n .height
+pub copied-at : (m m′ : List ℕ) {u u′ v v′ : ℕ} → u ≡ u′ → v ≡ v′ → Copied u v m m′ → Copied u′ v′ m m′
+copied-at m m′ e e′ o = rw (e, e′) at o
 
-  pub children : (s : Bool) (x y q : ℕ) (l r : Tree) → x ≡ near s (n .left) (n .right) → y ≡ far s (n .left) (n .right) → Stands m t (node q l r) → Children s x y q l r
-  unfolding Rep
-  children s x y q l r ex ey f =
-      record { at = f .at; near-at = go-near s ex; far-at = go-far s ey; split = ap (λ (z : Node). z .split) e; high = omega (arith, height-sides s l r, ap (λ (z : Node). z .height) e) }
-    where
-      e : n ≡ nodeOf (node q l r)
-      e = reads f
+pub over-at : (m m′ : List ℕ) {u u′ : ℕ} (q : ℕ) → u ≡ u′ → Over u q m m′ → Over u′ q m m′
+over-at m m′ q e o = rw e at o
 
-      at-left : place l ≡ n .left
-      at-left = sym (ap (λ (z : Node). z .left) e)
-
-      at-right : place r ≡ n .right
-      at-right = sym (ap (λ (z : Node). z .right) e)
-
-      go-near : (c : Bool) → x ≡ near c (n .left) (n .right) → Stands m x (near c l r)
-      go-near true i = record { rep = f .rep .2; at = at-left ∙ sym i }
-      go-near false i = record { rep = f .rep .3; at = at-right ∙ sym i }
-
-      go-far : (c : Bool) → y ≡ far c (n .left) (n .right) → Stands m y (far c l r)
-      go-far true i = record { rep = f .rep .3; at = at-right ∙ sym i }
-      go-far false i = record { rep = f .rep .2; at = at-left ∙ sym i }
+pub mendable-at : (m : List ℕ) {u u′ : ℕ} (q : ℕ) → u ≡ u′ → Mendable m u′ q → Mendable m u q
+mendable-at m q e w = rw e w

@@ -1,222 +1,317 @@
 -- The steps of a turn, single and double, for either side.
--- The high tree is taken apart; then each write of a node is one `Two` and one step of the frame.
-use mathlib.Core.Path.{_≡_, ap, _∙_}
-use mathlib.Core.Bool.{Bool}
+-- The high tree is taken apart; then one seat after the other is written, and each tree that is still needed stays.
+use mathlib.Core.Path.{_≡_, refl, sym, ap, _∙_}
+use mathlib.Core.Logic.{_≢_}
+use mathlib.Core.Bool.{Bool, true, false}
 use mathlib.Core.List.{List}
-use Prim.Native.Nat.{ℕ, _+_, _<_, _≤_, max}
+use Prim.Native.Nat.{ℕ, _+_, _*_, _/_, _<_, _≤_, max}
 use native.Mathlib.Omega.{arith}
 use borrow.Author.Tests.{le-leb, lt-leb}
-use Rattle.shape.specs.Tree.{Tree, leaf, node, height, same, uses, inners}
+use Rattle.shape.specs.Tree.{Tree, leaf, node, height, same, uses}
 use Rattle.shape.specs.Side.{over, near, far}
 use Rattle.shape.specs.Arrange.{turn}
 use Rattle.node.specs.declared.Node.{Node}
-use Rattle.node.specs.Layout.{highest, Within, nodeAt, Kept, Mendable}
+use Rattle.node.specs.Layout.{highest, Within, nodeAt, Kept, Over, Copied, Mendable}
 use Rattle.node.specs.Rep.{Stands}
 use Rattle.shape.specs.TurnLaws.{twice-over, turn-over, weight-turn, height-turn}
-use Rattle.shape.specs.SideLaws.{height-over, over-sides}
+use Rattle.shape.specs.SideLaws.{height-over, height-sides}
+use Rattle.shape.specs.PlaceLaws.{same-self, same-none}
 use Rattle.node.proofs.Frames.{kept-then, kept-less, within-kept}
-use Rattle.node.proofs.Reps.{tall, within, stands-frame}
-use Rattle.turning.specs.Turns.{OverOn, Two, Both, Arranged, Turns}
-use Rattle.turning.proofs.Sides.{uses-over, inners-over, two-mendable, two-over, children, reads-height}
+use Rattle.node.proofs.Reps.{tall, within}
+use Rattle.node.proofs.Seats.{nearSeat, farSeat, near-half, far-half, near-far, near-stands, far-stands, over-stands, stands-past, copied-past, reads-height, Parts, parts}
+use Rattle.turning.specs.Turns.{Two, Both, Arranged, Turns}
+use Rattle.turning.proofs.Sides.{uses-over, uses-sides, apart, seat-free, mendable-on}
 
--- the high tree, h over a and c, is taken apart
-record Single (m : List ℕ) (w h l x y : ℕ) (a c b : Tree) : Type 0 where
-  a-at : Stands m x a
-  c-at : Stands m y c
-  b-at : Stands m l b
-  w-in : Within m w
-  h-in : Within m h
-  once : (z : ℕ) → same z w + (same z h + uses z a + uses z c) + uses z b ≤ 1
+-- ---- the single turn: the high tree, at place x, is a and c; beside it is b; the node over all goes to the seat t of the place p
+record Single (m : List ℕ) (s : Bool) (t p w x : ℕ) (a c b : Tree) : Type 0 where
+  seat : t / 2 ≡ p
+  room : Within m t
+  high-in : Within m (nearSeat s w)
+  a-at : Stands m (nearSeat s x) a
+  c-at : Stands m (farSeat s x) c
+  b-at : Stands m (farSeat s w) b
+  once : (z : ℕ) → same z p + (same z w + (same z x + uses z a + uses z c) + uses z b) ≤ 1
   steep : height b + 1 ≤ max (height a) (height c)
   low : max (height a) (height c) + 2 ≤ highest
 
--- w over c and b, then h over a and w
-module _ {m : List ℕ} {w h l x y : ℕ} {a c b : Tree} (f : Single m w h l x y a c b) where
-  single-1 : Two m w y l c b
-  single-1 =
-      record { first = f .c-at; second = f .b-at; room = f .w-in; once = λ z. omega (arith, f .once z); low = omega (arith, f .low, f .steep) }
+-- c goes where the high tree was, w over c and b where c was, and x over a and that to t
+module _ {m : List ℕ} {s : Bool} {t p w x : ℕ} {a c b : Tree} (f : Single m s t p w x a c b) where
+  w-x : x ≢ w
+  w-x = same-none x w (omega (arith, f .once x, same-self x))
 
-  module _ (s : Bool) (m1 : List ℕ) (o : OverOn s w y l m m1) where
-    single-2 : Two m1 h x w a (over s w c b)
-    single-2 =
-        record {
-          first = stands-frame (o .kept) (λ z u. omega (arith, f .once z)) (f .a-at);
-          second = two-over single-1 s m1 o;
-          room = within-kept _ m m1 (o .kept) h (f .h-in);
-          once = λ z. omega (arith, f .once z, uses-over z s w c b);
-          low = omega (arith, f .low, f .steep, height-over s w c b);
-        }
+  p-x : p ≢ x
+  p-x = same-none p x (omega (arith, f .once p, same-self p))
 
-    single-end : (m2 : List ℕ) → OverOn s h x w m1 m2 → Stands m2 h (over s h a (over s w c b)) × Kept (λ z. same z w + same z h) m m2
-    single-end m2 o2 = (two-over single-2 s m2 o2, kept-then (o .kept) (o2 .kept) (λ z e. (omega arith, omega arith)))
+  module _ (m1 : List ℕ) (o1 : Copied (farSeat s x) (nearSeat s w) m m1) where
+    c1 : Stands m1 (nearSeat s w) c
+    c1 = copied-past (near-half s w) o1 (f .high-in) (omega (arith, f .once w, same-self w)) (f .c-at)
 
--- the high tree is h over a and, as the inner child, y over c and d
-record Double (m : List ℕ) (w h l x y u v : ℕ) (a c d b : Tree) : Type 0 where
-  a-at : Stands m x a
-  c-at : Stands m u c
-  d-at : Stands m v d
-  b-at : Stands m l b
-  w-in : Within m w
-  h-in : Within m h
-  y-in : Within m y
-  once : (z : ℕ) → same z w + (same z h + uses z a + (same z y + uses z c + uses z d)) + uses z b ≤ 1
-  steep : max (height a) (height b) ≤ max (height c) (height d)
-  low : max (height c) (height d) + 3 ≤ highest
+    b1 : Stands m1 (farSeat s w) b
+    b1 = stands-past (near-half s w) (o1 .kept) (λ e. near-far s w (sym e)) (omega (arith, f .once w, same-self w)) (f .b-at)
 
--- h over a and c, then w over d and b, then y over h and w
-module _ {m : List ℕ} {w h l x y u v : ℕ} {a c d b : Tree} (f : Double m w h l x y u v a c d b) where
-  double-1 : Two m h x u a c
-  double-1 =
-      record { first = f .a-at; second = f .c-at; room = f .h-in; once = λ z. omega (arith, f .once z); low = omega (arith, f .low, f .steep) }
+    a1 : Stands m1 (nearSeat s x) a
+    a1 = stands-past (near-half s w) (o1 .kept) (apart (near-half s x) (near-half s w) w-x) (omega (arith, f .once w, same-self w)) (f .a-at)
 
-  module _ (s : Bool) (m1 : List ℕ) (o : OverOn s h x u m m1) where
-    double-2 : Two m1 w v l d b
-    double-2 =
-        record {
-          first = stands-frame (o .kept) (λ z g. omega (arith, f .once z)) (f .d-at);
-          second = stands-frame (o .kept) (λ z g. omega (arith, f .once z)) (f .b-at);
-          room = within-kept _ m m1 (o .kept) w (f .w-in);
-          once = λ z. omega (arith, f .once z);
-          low = omega (arith, f .low, f .steep);
-        }
+    in1 : Within m1 (farSeat s x)
+    in1 = within-kept _ m m1 (o1 .kept) (farSeat s x) (within (f .c-at))
 
-    module _ (m2 : List ℕ) (o2 : OverOn s w v l m1 m2) where
-      double-3 : Two m2 y h w (over s h a c) (over s w d b)
-      double-3 =
-          record {
-            first = stands-frame (o2 .kept) (λ z g. omega (arith, f .once z, uses-over z s h a c)) (two-over double-1 s m1 o);
-            second = two-over double-2 s m2 o2;
-            room = within-kept _ m1 m2 (o2 .kept) y (within-kept _ m m1 (o .kept) y (f .y-in));
-            once = λ z. omega (arith, f .once z, uses-over z s h a c, uses-over z s w d b);
-            low = omega (arith, f .low, f .steep, height-over s h a c, height-over s w d b);
-          }
+    mend1 : Mendable m1 (farSeat s x) w
+    mend1 = mendable-on s in1 c1 b1 (omega (arith, f .low)) (omega (arith, f .low, f .steep))
 
-      double-end : (m3 : List ℕ) → OverOn s y h w m2 m3 → Stands m3 y (over s y (over s h a c) (over s w d b)) × Kept (λ z. same z w + (same z h + same z y)) m m3
-      double-end m3 o3 = (
-        two-over double-3 s m3 o3,
-        kept-then {n = λ z. same z w + same z h} (kept-then (o .kept) (o2 .kept) (λ z e. (omega arith, omega arith))) (o3 .kept) (λ z e. (omega arith, omega arith)),
+    module _ (m2 : List ℕ) (o2 : Over (farSeat s x) w m1 m2) where
+      w2 : Stands m2 (farSeat s x) (over s w c b)
+      w2 = over-stands s (far-half s x) in1 o2 c1 b1 w-x (omega (arith, f .once x, same-self x)) (omega (arith, f .once x, same-self x))
+
+      a2 : Stands m2 (nearSeat s x) a
+      a2 = stands-past (far-half s x) (o2 .kept) (near-far s x) (omega (arith, f .once x, same-self x)) a1
+
+      in2 : Within m2 t
+      in2 = within-kept _ m1 m2 (o2 .kept) t (within-kept _ m m1 (o1 .kept) t (f .room))
+
+      mend2 : Mendable m2 t x
+      mend2 = mendable-on s in2 a2 w2 (omega (arith, f .low)) (omega (arith, f .low, f .steep, height-over s w c b))
+
+      single-end : (m3 : List ℕ) → Over t x m2 m3
+          → Stands m3 t (over s x a (over s w c b)) × Kept (λ z. same z t + same (z / 2) w + same (z / 2) x) m m3
+      single-end m3 o3 = (
+        over-stands s (f .seat) in2 o3 a2 w2 p-x (omega (arith, f .once p, same-self p)) (omega (arith, f .once p, same-self p, uses-over p s w c b)),
+        kept-then {n = λ z. same (z / 2) w + same (z / 2) x}
+            (kept-then (o1 .kept) (o2 .kept) (λ z e. (seat-free z _ w (near-half s w) (omega arith), seat-free z _ x (far-half s x) (omega arith))))
+            (o3 .kept) (λ z e. (omega arith, omega arith)),
       )
 
--- a tree that is no leaf, at p, taken apart
-record Parts (m : List ℕ) (s : Bool) (p x y : ℕ) (t : Tree) : Type 0 where
-  a : Tree
-  c : Tree
-  is : t ≡ over s p a c
-  a-at : Stands m x a
-  c-at : Stands m y c
-  inside : Within m p
+-- ---- the double turn: the high tree's inner child, at place y, is d and e
+record Double (m : List ℕ) (s : Bool) (t p w x y : ℕ) (a d e b : Tree) : Type 0 where
+  seat : t / 2 ≡ p
+  room : Within m t
+  high-in : Within m (nearSeat s w)
+  inner-in : Within m (farSeat s x)
+  a-at : Stands m (nearSeat s x) a
+  d-at : Stands m (nearSeat s y) d
+  e-at : Stands m (farSeat s y) e
+  b-at : Stands m (farSeat s w) b
+  once : (z : ℕ) → same z p + (same z w + (same z x + uses z a + (same z y + uses z d + uses z e)) + uses z b) ≤ 1
+  steep : max (height a) (height b) ≤ max (height d) (height e)
+  low : max (height d) (height e) + 3 ≤ highest
 
-parts : (m : List ℕ) (s : Bool) (p x y : ℕ) (n : Node) → n ≡ nodeAt m p → x ≡ near s (n .left) (n .right) → y ≡ far s (n .left) (n .right) → 1 ≤ n .height
-    → (t : Tree) → Stands m p t → Parts m s p x y t
-parts m s p x y n e ex ey h (leaf q k v) f = absurd (omega (arith, reads-height m p n e f))
-parts m s p x y n e ex ey h (node q l r) f =
-    let k = children m p n e s x y q l r ex ey f in
-    record {
-      a = near s l r;
-      c = far s l r;
-      is = over-sides s q l r ∙ ap (λ (z : ℕ). over s z (near s l r) (far s l r)) (k .at);
-      a-at = k .near-at;
-      c-at = k .far-at;
-      inside = within f;
-    }
+-- d goes where the inner child was, e where the high tree was; x over a and d, w over e and b where d and e were; y over these to t
+module _ {m : List ℕ} {s : Bool} {t p w x y : ℕ} {a d e b : Tree} (f : Double m s t p w x y a d e b) where
+  x-w : x ≢ w
+  x-w = same-none x w (omega (arith, f .once x, same-self x))
 
-module _ (m : List ℕ) (s : Bool) (w h l : ℕ) (n : Node) (e : n ≡ nodeAt m h) (big : nodeAt m l .height + 2 ≤ nodeAt m h .height)
-    (x y : ℕ) (ex : x ≡ near s (n .left) (n .right)) (ey : y ≡ far s (n .left) (n .right)) where
-  heights : (t b : Tree) → Two m w h l t b → (n .height ≡ height t) × (height b + 2 ≤ height t)
-  heights t b f = (reads-height m h n e (f .first), omega (arith, tall (f .first), tall (f .second)))
+  y-w : y ≢ w
+  y-w = same-none y w (omega (arith, f .once y, same-self y))
 
-  open-high : (t b : Tree) → Two m w h l t b → Parts m s h x y t
-  open-high t b f = parts m s h x y n e ex ey (omega (arith, heights t b f)) t (f .first)
+  y-x : y ≢ x
+  y-x = same-none y x (omega (arith, f .once y, same-self y))
 
-  single : (t b : Tree) (f : Two m w h l t b) → Single m w h l x y (open-high t b f .a) (open-high t b f .c) b
-  single t b f =
-      let v = open-high t b f in
+  p-y : p ≢ y
+  p-y = same-none p y (omega (arith, f .once p, same-self p))
+
+  module _ (m1 : List ℕ) (o1 : Copied (nearSeat s y) (farSeat s x) m m1) where
+    d1 : Stands m1 (farSeat s x) d
+    d1 = copied-past (far-half s x) o1 (f .inner-in) (omega (arith, f .once x, same-self x)) (f .d-at)
+
+    a1′ : Stands m1 (nearSeat s x) a
+    a1′ = stands-past (far-half s x) (o1 .kept) (near-far s x) (omega (arith, f .once x, same-self x)) (f .a-at)
+
+    e1 : Stands m1 (farSeat s y) e
+    e1 = stands-past (far-half s x) (o1 .kept) (apart (far-half s y) (far-half s x) y-x) (omega (arith, f .once x, same-self x)) (f .e-at)
+
+    b1′ : Stands m1 (farSeat s w) b
+    b1′ = stands-past (far-half s x) (o1 .kept) (apart (far-half s w) (far-half s x) (λ q. x-w (sym q))) (omega (arith, f .once x, same-self x)) (f .b-at)
+
+    high1 : Within m1 (nearSeat s w)
+    high1 = within-kept _ m m1 (o1 .kept) (nearSeat s w) (f .high-in)
+
+    module _ (m2 : List ℕ) (o2 : Copied (farSeat s y) (nearSeat s w) m1 m2) where
+      e2 : Stands m2 (nearSeat s w) e
+      e2 = copied-past (near-half s w) o2 high1 (omega (arith, f .once w, same-self w)) e1
+
+      d2 : Stands m2 (farSeat s x) d
+      d2 = stands-past (near-half s w) (o2 .kept) (apart (far-half s x) (near-half s w) x-w) (omega (arith, f .once w, same-self w)) d1
+
+      a2′ : Stands m2 (nearSeat s x) a
+      a2′ = stands-past (near-half s w) (o2 .kept) (apart (near-half s x) (near-half s w) x-w) (omega (arith, f .once w, same-self w)) a1′
+
+      b2 : Stands m2 (farSeat s w) b
+      b2 = stands-past (near-half s w) (o2 .kept) (λ q. near-far s w (sym q)) (omega (arith, f .once w, same-self w)) b1′
+
+      moved : (u : ℕ) → Within m u → Within m2 u
+      moved u i = within-kept _ m1 m2 (o2 .kept) u (within-kept _ m m1 (o1 .kept) u i)
+
+      mend-x : Mendable m2 (nearSeat s y) x
+      mend-x = mendable-on s (moved _ (within (f .d-at))) a2′ d2 (omega (arith, f .low, f .steep)) (omega (arith, f .low))
+
+      module _ (m3 : List ℕ) (o3 : Over (nearSeat s y) x m2 m3) where
+        x3 : Stands m3 (nearSeat s y) (over s x a d)
+        x3 = over-stands s (near-half s y) (moved _ (within (f .d-at))) o3 a2′ d2 y-x (omega (arith, f .once y, same-self y)) (omega (arith, f .once y, same-self y))
+
+        e3 : Stands m3 (nearSeat s w) e
+        e3 = stands-past (near-half s y) (o3 .kept) (apart (near-half s w) (near-half s y) (λ q. y-w (sym q))) (omega (arith, f .once y, same-self y)) e2
+
+        b3 : Stands m3 (farSeat s w) b
+        b3 = stands-past (near-half s y) (o3 .kept) (apart (far-half s w) (near-half s y) (λ q. y-w (sym q))) (omega (arith, f .once y, same-self y)) b2
+
+        far3 : Within m3 (farSeat s y)
+        far3 = within-kept _ m2 m3 (o3 .kept) _ (moved _ (within (f .e-at)))
+
+        mend-w : Mendable m3 (farSeat s y) w
+        mend-w = mendable-on s far3 e3 b3 (omega (arith, f .low)) (omega (arith, f .low, f .steep))
+
+        module _ (m4 : List ℕ) (o4 : Over (farSeat s y) w m3 m4) where
+          w4 : Stands m4 (farSeat s y) (over s w e b)
+          w4 = over-stands s (far-half s y) far3 o4 e3 b3 y-w (omega (arith, f .once y, same-self y)) (omega (arith, f .once y, same-self y))
+
+          x4 : Stands m4 (nearSeat s y) (over s x a d)
+          x4 = stands-past (far-half s y) (o4 .kept) (near-far s y) (omega (arith, f .once y, same-self y, uses-over y s x a d)) x3
+
+          in4 : Within m4 t
+          in4 = within-kept _ m3 m4 (o4 .kept) t (within-kept _ m2 m3 (o3 .kept) t (moved t (f .room)))
+
+          mend-y : Mendable m4 t y
+          mend-y = mendable-on s in4 x4 w4 (omega (arith, f .low, f .steep, height-over s x a d)) (omega (arith, f .low, f .steep, height-over s w e b))
+
+          double-end : (m5 : List ℕ) → Over t y m4 m5
+              → Stands m5 t (over s y (over s x a d) (over s w e b)) × Kept (λ z. same z t + same (z / 2) w + same (z / 2) x + same (z / 2) y) m m5
+          double-end m5 o5 = (
+            over-stands s (f .seat) in4 o5 x4 w4 p-y (omega (arith, f .once p, same-self p, uses-over p s x a d)) (omega (arith, f .once p, same-self p, uses-over p s w e b)),
+            kept-then {n = λ z. same (z / 2) w + same (z / 2) x + same (z / 2) y}
+                (kept-then {n = λ z. same (z / 2) w + same (z / 2) x}
+                (kept-then (o1 .kept) (o2 .kept) (λ z q. (seat-free z _ x (far-half s x) (omega arith), seat-free z _ w (near-half s w) (omega arith))))
+                (kept-then {k = λ z. same (z / 2) y} (o3 .kept) (o4 .kept) (λ z q. (seat-free z _ y (near-half s y) q, seat-free z _ y (far-half s y) q)))
+                (λ z q. (omega arith, omega arith)))
+                (o5 .kept) (λ z q. (omega arith, omega arith)),
+          )
+
+-- ---- the high tree taken apart by what was read
+module _ (m : List ℕ) (s : Bool) (t w : ℕ) (n : Node) (en : n ≡ nodeAt m (nearSeat s w))
+    (big : nodeAt m (farSeat s w) .height + 2 ≤ nodeAt m (nearSeat s w) .height) where
+  high-at : (a b : Tree) → Two m t w a b → Stands m (nearSeat s w) (near s a b)
+  high-at a b f = near-stands s w (f .first) (f .second)
+
+  low-at : (a b : Tree) → Two m t w a b → Stands m (farSeat s w) (far s a b)
+  low-at a b f = far-stands s w (f .first) (f .second)
+
+  heights : (a b : Tree) → Two m t w a b → (n .height ≡ height (near s a b)) × (height (far s a b) + 2 ≤ height (near s a b))
+  heights a b f = (reads-height m (nearSeat s w) n en (high-at a b f), omega (arith, tall (high-at a b f), tall (low-at a b f)))
+
+  open-high : (a b : Tree) → Two m t w a b → Parts m s (n .place) (near s a b)
+  open-high a b f = parts m s (nearSeat s w) n en (omega (arith, heights a b f)) (near s a b) (high-at a b f)
+
+  single : (a b : Tree) (f : Two m t w a b) → Single m s t (t / 2) w (n .place) (open-high a b f .a) (open-high a b f .c) (far s a b)
+  single a b f =
+      let v = open-high a b f in
       let i = ap height (v .is) in
-      let k = height-over s h (v .a) (v .c) in
-      let g = heights t b f in
+      let k = height-over s (n .place) (v .a) (v .c) in
+      let g = heights a b f in
       record {
+        seat = refl;
+        room = f .room;
+        high-in = within (high-at a b f);
         a-at = v .a-at;
         c-at = v .c-at;
-        b-at = f .second;
-        w-in = f .room;
-        h-in = v .inside;
-        once = λ z. omega (arith, f .once z, ap (uses z) (v .is), uses-over z s h (v .a) (v .c));
+        b-at = low-at a b f;
+        once = λ z. omega (arith, f .once z, uses-sides z s a b, ap (uses z) (v .is), uses-over z s (n .place) (v .a) (v .c));
         steep = omega arith;
-        low = omega (arith, f .low);
+        low = omega (arith, f .low, height-sides s a b);
       }
 
-  pub within-below : Both m w h l → Within m x × Within m y
-  within-below g = let v = open-high (g .0) (g .1) (g .2) in (within (v .a-at), within (v .c-at))
-
-  pub mendable-single-1 : Both m w h l → Mendable m w y l
-  mendable-single-1 g = two-mendable (single-1 (single (g .0) (g .1) (g .2)))
-
-  pub mendable-single-2 : (m1 : List ℕ) → OverOn s w y l m m1 → Both m w h l → Mendable m1 h x w
-  mendable-single-2 m1 o g = two-mendable (single-2 (single (g .0) (g .1) (g .2)) s m1 o)
-
-  -- whatever the turn has written is in the high tree or is w
-  arranged : (t b : Tree) → Two m w h l t b → (m′ : List ℕ) (r : ℕ) (k : ℕ → ℕ) → Stands m′ r (turn s w t b) → Kept k m m′ → ((z : ℕ) → inners z (node w t b) ≡ 0 → k z ≡ 0) → Arranged r (node w t b) (turn s w t b) m m′
-  arranged t b f m′ r k st kept less =
+  -- whatever the turn has written is t, or at w or a place of the high tree
+  arranged : (a b : Tree) → Two m t w a b → (m′ : List ℕ) (k : ℕ → ℕ) → Stands m′ t (turn s w (near s a b) (far s a b)) → Kept k m m′
+      → ((z : ℕ) → same z t + uses (z / 2) (node w a b) ≡ 0 → k z ≡ 0) → Arranged t (node w a b) (turn s w (near s a b) (far s a b)) m m′
+  arranged a b f m′ k st kept less =
       record {
         stands = st;
-        many = λ z. weight-turn (λ p j v. same z p) (same z) s w t b;
-        high = omega (arith, height-turn s w t b (heights t b f .1));
+        many = λ z. omega (arith, weight-turn (λ j v. 0) (same z) s w (near s a b) (far s a b), uses-sides z s a b);
+        high = omega (arith, height-turn s w (near s a b) (far s a b) (heights a b f .1), height-sides s a b);
         kept = kept-less kept less;
       }
 
-  module _ (outer inner : Node) (eo : outer ≡ nodeAt m x) (ei : inner ≡ nodeAt m y) where
-    compared : (t b : Tree) (f : Two m w h l t b) → (outer .height ≡ height (open-high t b f .a)) × (inner .height ≡ height (open-high t b f .c))
-    compared t b f =
-        let v = open-high t b f in
-        (reads-height m x outer eo (v .a-at), reads-height m y inner ei (v .c-at))
+  -- ---- what the code may do
+  pub within-below : Both m t w → Within m (nearSeat s (n .place)) × Within m (farSeat s (n .place)) × (n .place < 65536)
+  within-below g =
+      let v = open-high (g .0) (g .1) (g .2) in
+      let i = within (v .a-at) in
+      (i, within (v .c-at), omega (arith, i .2, near-half s (n .place)))
 
-    pub turn-single : (m1 m2 : List ℕ) → inner .height ≤ outer .height → OverOn s w y l m m1 → OverOn s h x w m1 m2 → Turns s w h l h m m2
-    turn-single m1 m2 le o o2 t b f =
-        let v = open-high t b f in
-        let q : height (v .c) ≤ height (v .a) = omega (arith, compared t b f) in
-        let g = single-end (single t b f) s m1 o m2 o2 in
-        arranged t b f m2 h _ (rw (v .is, turn-over s w h (v .a) (v .c) b, le-leb (height (v .c)) (height (v .a)) q) (g .0)) (g .1)
-        (λ z i. omega (arith, i, ap (inners z) (v .is), inners-over z s h (v .a) (v .c)))
+  pub mend-single-1 : (m1 : List ℕ) → Copied (farSeat s (n .place)) (nearSeat s w) m m1 → Both m t w → Mendable m1 (farSeat s (n .place)) w
+  mend-single-1 m1 o1 g = mend1 (single (g .0) (g .1) (g .2)) m1 o1
 
-    module _ (lt : outer .height < inner .height) (u v : ℕ) (eu : u ≡ near s (inner .left) (inner .right)) (ev : v ≡ far s (inner .left) (inner .right)) where
-      open-inner : (t b : Tree) (f : Two m w h l t b) → Parts m s y u v (open-high t b f .c)
-      open-inner t b f = parts m s y u v inner ei eu ev (omega arith) (open-high t b f .c) (open-high t b f .c-at)
+  pub mend-single-2 : (m1 m2 : List ℕ) → Copied (farSeat s (n .place)) (nearSeat s w) m m1 → Over (farSeat s (n .place)) w m1 m2 → Both m t w → Mendable m2 t (n .place)
+  mend-single-2 m1 m2 o1 o2 g = mend2 (single (g .0) (g .1) (g .2)) m1 o1 m2 o2
 
-      double : (t b : Tree) (f : Two m w h l t b) → Double m w h l x y u v (open-high t b f .a) (open-inner t b f .a) (open-inner t b f .c) b
-      double t b f =
-          let g = single t b f in
-          let i = open-inner t b f in
+  module _ (outer inner : Node) (eo : outer ≡ nodeAt m (nearSeat s (n .place))) (ei : inner ≡ nodeAt m (farSeat s (n .place))) where
+    compared : (a b : Tree) (f : Two m t w a b) → (outer .height ≡ height (open-high a b f .a)) × (inner .height ≡ height (open-high a b f .c))
+    compared a b f =
+        let v = open-high a b f in
+        (reads-height m _ outer eo (v .a-at), reads-height m _ inner ei (v .c-at))
+
+    pub turn-single : (m1 m2 m3 : List ℕ) → inner .height ≤ outer .height → Copied (farSeat s (n .place)) (nearSeat s w) m m1
+        → Over (farSeat s (n .place)) w m1 m2 → Over t (n .place) m2 m3 → Turns s t w m m3
+    turn-single m1 m2 m3 le o1 o2 o3 a b f =
+        let v = open-high a b f in
+        let q : height (v .c) ≤ height (v .a) = omega (arith, compared a b f) in
+        let g = single-end (single a b f) m1 o1 m2 o2 m3 o3 in
+        arranged a b f m3 _ (rw (v .is, turn-over s w (n .place) (v .a) (v .c) (far s a b), le-leb (height (v .c)) (height (v .a)) q) (g .0)) (g .1)
+        (λ z i. omega (arith, i, uses-sides (z / 2) s a b, ap (uses (z / 2)) (v .is), uses-over (z / 2) s (n .place) (v .a) (v .c)))
+
+    module _ (lt : outer .height < inner .height) where
+      open-inner : (a b : Tree) (f : Two m t w a b) → Parts m s (inner .place) (open-high a b f .c)
+      open-inner a b f = parts m s _ inner ei (omega arith) (open-high a b f .c) (open-high a b f .c-at)
+
+      double : (a b : Tree) (f : Two m t w a b)
+          → Double m s t (t / 2) w (n .place) (inner .place) (open-high a b f .a) (open-inner a b f .a) (open-inner a b f .c) (far s a b)
+      double a b f =
+          let g = single a b f in
+          let i = open-inner a b f in
           let j = ap height (i .is) in
-          let k = height-over s y (i .a) (i .c) in
-          let q = compared t b f in
+          let k = height-over s (inner .place) (i .a) (i .c) in
+          let q = compared a b f in
           record {
+            seat = refl;
+            room = g .room;
+            high-in = g .high-in;
+            inner-in = within (g .c-at);
             a-at = g .a-at;
-            c-at = i .a-at;
-            d-at = i .c-at;
+            d-at = i .a-at;
+            e-at = i .c-at;
             b-at = g .b-at;
-            w-in = g .w-in;
-            h-in = g .h-in;
-            y-in = i .inside;
-            once = λ z. omega (arith, g .once z, ap (uses z) (i .is), uses-over z s y (i .a) (i .c));
+            once = λ z. omega (arith, g .once z, ap (uses z) (i .is), uses-over z s (inner .place) (i .a) (i .c));
             steep = omega (arith, g .steep);
             low = omega (arith, g .low);
           }
 
-      pub mendable-double-1 : Both m w h l → Mendable m h x u
-      mendable-double-1 g = two-mendable (double-1 (double (g .0) (g .1) (g .2)))
+      pub within-inner : Both m t w → Within m (nearSeat s (inner .place)) × Within m (farSeat s (inner .place)) × (inner .place < 65536)
+      within-inner g =
+          let v = open-inner (g .0) (g .1) (g .2) in
+          let i = within (v .a-at) in
+          (i, within (v .c-at), omega (arith, i .2, near-half s (inner .place)))
 
-      pub mendable-double-2 : (m1 : List ℕ) → OverOn s h x u m m1 → Both m w h l → Mendable m1 w v l
-      mendable-double-2 m1 o g = two-mendable (double-2 (double (g .0) (g .1) (g .2)) s m1 o)
+      module _ (m1 : List ℕ) (o1 : Copied (nearSeat s (inner .place)) (farSeat s (n .place)) m m1) where
+        pub within-second : Both m t w → Within m1 (farSeat s (inner .place)) × Within m1 (nearSeat s w)
+        within-second g =
+            let d = double (g .0) (g .1) (g .2) in
+            (within (e1 d m1 o1), high1 d m1 o1)
 
-      pub mendable-double-3 : (m1 m2 : List ℕ) → OverOn s h x u m m1 → OverOn s w v l m1 m2 → Both m w h l → Mendable m2 y h w
-      mendable-double-3 m1 m2 o o2 g = two-mendable (double-3 (double (g .0) (g .1) (g .2)) s m1 o m2 o2)
+        module _ (m2 : List ℕ) (o2 : Copied (farSeat s (inner .place)) (nearSeat s w) m1 m2) where
+          pub mend-double-1 : Both m t w → Mendable m2 (nearSeat s (inner .place)) (n .place)
+          mend-double-1 g = mend-x (double (g .0) (g .1) (g .2)) m1 o1 m2 o2
 
-      pub turn-double : (m1 m2 m3 : List ℕ) → OverOn s h x u m m1 → OverOn s w v l m1 m2 → OverOn s y h w m2 m3 → Turns s w h l y m m3
-      turn-double m1 m2 m3 o o2 o3 t b f =
-          let j = open-high t b f in
-          let i = open-inner t b f in
-          let q : height (j .a) < height (j .c) = omega (arith, compared t b f) in
-          let g = double-end (double t b f) s m1 o m2 o2 m3 o3 in
-          arranged t b f m3 y _
-          (rw (j .is, turn-over s w h (j .a) (j .c) b, lt-leb (height (j .c)) (height (j .a)) q, i .is, twice-over s w h y (j .a) (i .a) (i .c) b) (g .0)) (g .1)
-          (λ z k. omega (arith, k, ap (inners z) (j .is), inners-over z s h (j .a) (j .c), ap (inners z) (i .is), inners-over z s y (i .a) (i .c)))
+          module _ (m3 : List ℕ) (o3 : Over (nearSeat s (inner .place)) (n .place) m2 m3) where
+            pub mend-double-2 : Both m t w → Mendable m3 (farSeat s (inner .place)) w
+            mend-double-2 g = mend-w (double (g .0) (g .1) (g .2)) m1 o1 m2 o2 m3 o3
+
+            module _ (m4 : List ℕ) (o4 : Over (farSeat s (inner .place)) w m3 m4) where
+              pub mend-double-3 : Both m t w → Mendable m4 t (inner .place)
+              mend-double-3 g = mend-y (double (g .0) (g .1) (g .2)) m1 o1 m2 o2 m3 o3 m4 o4
+
+              pub turn-double : (m5 : List ℕ) → Over t (inner .place) m4 m5 → Turns s t w m m5
+              turn-double m5 o5 a b f =
+                  let j = open-high a b f in
+                  let i = open-inner a b f in
+                  let q : height (j .a) < height (j .c) = omega (arith, compared a b f) in
+                  let g = double-end (double a b f) m1 o1 m2 o2 m3 o3 m4 o4 m5 o5 in
+                  arranged a b f m5 _
+                  (rw (j .is, turn-over s w (n .place) (j .a) (j .c) (far s a b), lt-leb (height (j .c)) (height (j .a)) q, i .is, twice-over s w (n .place) (inner .place) (j .a) (i .a) (i .c) (far s a b)) (g .0)) (g .1)
+                  (λ z k. omega (arith, k, uses-sides (z / 2) s a b, ap (uses (z / 2)) (j .is), uses-over (z / 2) s (n .place) (j .a) (j .c), ap (uses (z / 2)) (i .is), uses-over (z / 2) s (inner .place) (i .a) (i .c)))

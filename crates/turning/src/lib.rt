@@ -1,85 +1,56 @@
-// Turns and balances in lent memory: a node is put over two trees, turned where one is too high (shape's Arrange).
+// Turns and balances in lent memory: a node is put over the two trees at a place, turned where one is too high (shape's Arrange).
 // Left and right are one parameter, so that one function serves both sides.
-ghost use mathlib.Core.Path.{_≡_};
-ghost use Prim.Native.Nat.{_+_, _≤_};
+ghost use Prim.Native.Nat.{_+_, _*_, _≤_};
 ghost use Rattle.shape.specs.Side.{near, far};
-ghost use Rattle.node.specs.Layout.{nodeAt, Mendable};
-ghost use Rattle.turning.specs.Turns.{OverOn, Both, Turns, Balances, BalancesOn};
+ghost use Rattle.node.specs.Layout.{nodeAt};
+ghost use Rattle.turning.specs.Turns.{Both, Turns, Balances};
+use node::copy;
+use node::far;
+use node::load;
+use node::near;
+use summing::mend;
 
-// Of a node's children, the one on the side named, and the other.
-pub fn near(left: bool, l: u64, r: u64) -> usize
-    ensures { λ x. ⌜ x ≡ near left l r ⌝ }
+// Puts a node at seat s over the two trees at place w, of which the one on the side named is too high, by a single or a double turn.
+fn turn(mem: &mut [u8], s: usize, w: u64, left: bool)
+    requires { ⌜ nodeAt (now mem) (far left (2 * w) (2 * w + 1)) .height + 2 ≤ nodeAt (now mem) (near left (2 * w) (2 * w + 1)) .height ⌝ }
+    requires { ⌜ Both (now mem) s w ⌝ }
+    ensures { λ _. ⌜ Turns left s w (now (mem .entry)) (now (mem .exit)) ⌝ }
 {
-    if left { l as usize } else { r as usize }
+    let high = near(left, w);
+    let x = load(mem, high).place;
+    let inner = far(left, x);
+    let i = load(mem, inner);
+    let o = load(mem, near(left, x));
+    if i.height <= o.height {
+        copy(mem, inner, high);
+        mend(mem, inner, w);
+        mend(mem, s, x);
+        return;
+    }
+    let y = i.place;
+    let first = near(left, y);
+    let second = far(left, y);
+    copy(mem, first, inner);
+    copy(mem, second, high);
+    mend(mem, first, x);
+    mend(mem, second, w);
+    mend(mem, s, y);
 }
 
-pub fn far(left: bool, l: u64, r: u64) -> usize
-    ensures { λ x. ⌜ x ≡ far left l r ⌝ }
+// Puts a node at seat s over the two trees at place w, turned where one is too high.
+pub fn balance(mem: &mut [u8], s: usize, w: u64)
+    requires { ⌜ Both (now mem) s w ⌝ }
+    ensures { λ _. ⌜ Balances s w (now (mem .entry)) (now (mem .exit)) ⌝ }
 {
-    if left { r as usize } else { l as usize }
-}
-
-// Writes the node p over x, on the side named, and y.
-pub fn mend_on(mem: &mut [u8], p: usize, x: usize, y: usize, left: bool)
-    requires { ⌜ Mendable (now mem) p x y ⌝ }
-    ensures { λ _. ⌜ OverOn left p x y (now (mem .entry)) (now (mem .exit)) ⌝ }
-{
-    if left {
-        summing::mend(mem, p, x, y);
-    } else {
-        summing::mend(mem, p, y, x);
+    let l = load(mem, near(true, w)).height;
+    let r = load(mem, far(true, w)).height;
+    if r + 2 <= l {
+        turn(mem, s, w, true);
+        return;
     }
-}
-
-// Puts w over a tree that is too high, on the side named, and a lower one, by a single or a double turn. The new root's place.
-fn turn(mem: &mut [u8], w: usize, high: usize, low: usize, left: bool) -> usize
-    requires { ⌜ nodeAt (now mem) low .height + 2 ≤ nodeAt (now mem) high .height ⌝ }
-    requires { ⌜ Both (now mem) w high low ⌝ }
-    ensures { λ t. ⌜ Turns left w high low t (now (mem .entry)) (now (mem .exit)) ⌝ }
-{
-    let n = node::load(mem, high);
-    let x = near(left, n.left, n.right);
-    let y = far(left, n.left, n.right);
-    let outer = node::load(mem, x);
-    let inner = node::load(mem, y);
-    if inner.height <= outer.height {
-        mend_on(mem, w, y, low, left);
-        mend_on(mem, high, x, w, left);
-        return high;
+    if l + 2 <= r {
+        turn(mem, s, w, false);
+        return;
     }
-    let u = near(left, inner.left, inner.right);
-    let v = far(left, inner.left, inner.right);
-    mend_on(mem, high, x, u, left);
-    mend_on(mem, w, v, low, left);
-    mend_on(mem, y, high, w, left);
-    y
-}
-
-// Puts w over l and r, turned where one is too high. The root's place.
-pub fn balance(mem: &mut [u8], w: usize, l: usize, r: usize) -> usize
-    requires { ⌜ Both (now mem) w l r ⌝ }
-    ensures { λ t. ⌜ Balances w l r t (now (mem .entry)) (now (mem .exit)) ⌝ }
-{
-    let hl = node::load(mem, l).height;
-    let hr = node::load(mem, r).height;
-    if hr + 2 <= hl {
-        return turn(mem, w, l, r, true);
-    }
-    if hl + 2 <= hr {
-        return turn(mem, w, r, l, false);
-    }
-    summing::mend(mem, w, l, r);
-    w
-}
-
-// The same over x, on the side named, and y.
-pub fn balance_on(mem: &mut [u8], w: usize, x: usize, y: usize, left: bool) -> usize
-    requires { ⌜ Both (now mem) w x y ⌝ }
-    ensures { λ t. ⌜ BalancesOn left w x y t (now (mem .entry)) (now (mem .exit)) ⌝ }
-{
-    if left {
-        balance(mem, w, x, y)
-    } else {
-        balance(mem, w, y, x)
-    }
+    mend(mem, s, w);
 }
