@@ -1,39 +1,47 @@
 -- Going down a tree whose places are used once: the tree on the side that a node leads to stands alone again, and is lower.
 -- Every way down takes these steps, and every way up goes back over them.
-use mathlib.Core.Path.{_≡_}
+use mathlib.Core.Path.{_≡_, ap, _∙_}
 use mathlib.Core.Bool.{Bool}
 use mathlib.Core.List.{List}
-use Prim.Native.Nat.{ℕ, _<_}
+use Prim.Native.Nat.{ℕ, _+_, _/_, _<_, _≤_}
 use native.Mathlib.Omega.{arith}
-use Rattle.shape.specs.Tree.{Tree, leaf, node}
+use Rattle.shape.specs.Tree.{Tree, leaf, node, same, uses}
 use Rattle.shape.specs.Side.{near, far}
+use Rattle.shape.specs.SideLaws.{weight-sides}
 use Rattle.shape.specs.EvenLaws.{kids}
 use Rattle.node.specs.declared.Node.{Node}
 use Rattle.node.specs.Layout.{Within, nodeAt}
 use Rattle.node.proofs.Reps.{tall, within}
+use Rattle.node.proofs.Seats.{nearSeat, farSeat, near-half, reads-height, Children, children}
 use Rattle.tracing.specs.Alone.{Sole, Alone}
-use Rattle.turning.proofs.Sides.{uses-sides, reads-height, Children, children}
 
 pub within-alone : (m : List ℕ) (t : ℕ) → Alone m t → Within m t
 within-alone m t g = within (g .1 .stands)
 
 -- ---- at an inner node, with a side
 module _ (m : List ℕ) (t : ℕ) (n : Node) (e : n ≡ nodeAt m t) (nz : n .height ≡ 0 → ⊥)
-    (s : Bool) (x y : ℕ) (ex : x ≡ near s (n .left) (n .right)) (ey : y ≡ far s (n .left) (n .right)) where
+    (s : Bool) (x y : ℕ) (ex : x ≡ nearSeat s (n .place)) (ey : y ≡ farSeat s (n .place)) where
   pub below : (q : ℕ) (l r : Tree) → Sole m t (node q l r) → Children m t n e s x y q l r
   below q l r g = children m t n e s x y q l r ex ey (g .stands)
+
+  -- the near seat is at the node's place
+  half : (q : ℕ) → n .place ≡ q → x / 2 ≡ q
+  half q h = ap (λ (z : ℕ). z / 2) ex ∙ near-half s (n .place) ∙ h
 
   pub sole-near : (q : ℕ) (l r : Tree) → Sole m t (node q l r) → Sole m x (near s l r)
   sole-near q l r g =
       let c = below q l r g in
       record {
         stands = c .near-at;
-        once = λ z. omega (arith, g .once z, uses-sides z s l r);
+        once = λ z. once z;
         even = kids s q l r (g .even) .first;
         low = omega (arith, g .low, c .high, reads-height m t n e (g .stands));
       }
+    where
+      once : (z : ℕ) → same z (x / 2) + uses z (near s l r) ≤ 1
+      once z = rw (half q (below q l r g .at)) (omega (arith, g .once z, weight-sides (λ k e. 0) (same z) s l r))
 
-  -- the place gone to: a tree stands there alone, and it is lower; another stands on the other side
+  -- the seat gone to: a tree stands there alone, and it is lower; another stands on the other side
   pub record Down : Type 0 where
     pub near-alone : Alone m x
     pub lower : nodeAt m x .height < nodeAt m t .height
@@ -43,7 +51,7 @@ module _ (m : List ℕ) (t : ℕ) (n : Node) (e : n ≡ nodeAt m t) (nz : n .hei
   down g = go (g .0) (g .1)
     where
       go : (tr : Tree) → Sole m t tr → Down
-      go (leaf p j v) f = absurd (nz (reads-height m t n e (f .stands)))
+      go (leaf j v) f = absurd (nz (reads-height m t n e (f .stands)))
       go (node q l r) f =
           let c = below q l r f in
           record {

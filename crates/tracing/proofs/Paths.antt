@@ -4,7 +4,7 @@ use mathlib.Core.Path.{_≡_, refl, sym, ap, _∙_}
 use mathlib.Core.Logic.{_⊎_, inl, inr}
 use mathlib.Core.Bool.{Bool, true, false}
 use mathlib.Core.List.{List}
-use Prim.Native.Nat.{ℕ, zero, suc, _+_, _≤_, _<_}
+use Prim.Native.Nat.{ℕ, zero, suc, _+_, _*_, _/_, _≤_, _<_}
 use native.Mathlib.Decide.{ℕ-discrete}
 use native.Mathlib.Omega.{arith}
 use lib.Dec.{ltb}
@@ -12,15 +12,18 @@ use lib.ListN.{length, getD}
 use borrow.Author.Tests.{lt-ltb, le-ltb}
 use Rattle.shape.specs.Tree.{Tree, leaf, node, lo, Ord, In}
 use Rattle.shape.specs.TreeLaws.{lo-in, in-ord}
-use Rattle.shape.specs.Side.{near, far}
 use Rattle.node.specs.declared.Node.{Node}
 use Rattle.node.specs.Layout.{nodeAt}
 use Rattle.node.specs.Rep.{Stands}
 use Rattle.node.specs.Paths.{longestWay, Child, Down}
 use Rattle.node.proofs.Reps.{seen, tall, one-tree}
+use Rattle.node.proofs.Seats.{nearSeat, farSeat, children}
 use Rattle.tracing.specs.Alone.{Sole}
 use Rattle.tracing.specs.Ways.{Leads, Way, Partway}
-use Rattle.turning.proofs.Sides.{Children, children}
+
+-- a seat of a place is its left or its right one
+sides : (x q : ℕ) → x / 2 ≡ q → (x ≡ nearSeat true q) ⊎ (x ≡ nearSeat false q)
+sides x q h = elim (ℕ-discrete x (2 * q)) [ yes e ↦ inl e | no n ↦ inr (omega arith) ]
 
 module _ (m : List ℕ) (t d : ℕ) (ws : List ℕ) (D : Down m t d ws) where
   abbrev at : ℕ → ℕ
@@ -28,30 +31,34 @@ module _ (m : List ℕ) (t d : ℕ) (ws : List ℕ) (D : Down m t d ws) where
 
   -- K is among the keys of the tree at the end
   module _ (K : ℕ) (base : (tr : Tree) (a b : ℕ) → Stands m (at d) tr → Ord a b tr → (a ≤ K) × (K < b)) where
-    -- from the place i on the key leads, and it is among the keys there
+    -- from the seat i on the key leads, and it is among the keys there
     record From (i a b : ℕ) : Type 0 where
       low : a ≤ K
       high : K < b
       leads : (j : ℕ) → i ≤ j → j < d → Leads m K (at j) (at (suc j))
 
-    leads-to : (w x : ℕ) (s : Bool) (l r : ℕ) → (nodeAt m w .height ≡ 0 → ⊥) → nodeAt m w .left ≡ l → nodeAt m w .right ≡ r → ltb K (nodeAt m w .split) ≡ s → x ≡ near s l r → Leads m K w x
-    leads-to w x s l r n el er es e = record { inner = n; to = rw (es, el, er) e }
+    -- the least key on the right of the node at w
+    abbrev split : ℕ → ℕ
+    split w = nodeAt m (2 * nodeAt m w .place + 1) .lo
+
+    leads-to : (w x : ℕ) (s : Bool) → (nodeAt m w .height ≡ 0 → ⊥) → ltb K (split w) ≡ s → x ≡ nearSeat s (nodeAt m w .place) → Leads m K w x
+    leads-to w x s n es e = record { inner = n; to = rw es e }
 
     from : (n i : ℕ) → n + i ≡ d → (tr : Tree) (a b : ℕ) → Stands m (at i) tr → Ord a b tr → From i a b
     from zero i e tr a b s o =
         let q : i ≡ d = omega arith in
         let B = base tr a b (rw q at s) o in
         record { low = B .0; high = B .1; leads = λ j h l. absurd (omega arith) }
-    from (suc n) i e (leaf p k f) a b s o = absurd (D .steps i (omega arith) .inner (tall s))
-    from (suc n) i e (node p l r) a b s o = elim (D .steps i (omega arith) .is) [
-      | inl q ↦ let c = children m (at i) (nodeAt m (at i)) refl true (at (suc i)) (nodeAt m (at i) .right) p l r q refl s in
+    from (suc n) i e (leaf k f) a b s o = absurd (D .steps i (omega arith) .inner (tall s))
+    from (suc n) i e (node p l r) a b s o = elim (sides (at (suc i)) (nodeAt m (at i) .place) (D .steps i (omega arith) .is)) [
+      | inl q ↦ let c = children m (at i) (nodeAt m (at i)) refl true (at (suc i)) (farSeat true (nodeAt m (at i) .place)) p l r q refl s in
           let F = from n (suc i) (omega arith) l a (lo r) (c .near-at) (o .0) in
-          let h : ltb K (nodeAt m (at i) .split) ≡ true = lt-ltb K (nodeAt m (at i) .split) (omega (arith, F .high, c .split)) in
-          record { low = F .low; high = omega (arith, F .high, lo-in (lo r) b r (o .1)); leads = next F (leads-to (at i) (at (suc i)) true _ _ (D .steps i (omega arith) .inner) refl refl h q) }
-      | inr q ↦ let c = children m (at i) (nodeAt m (at i)) refl false (at (suc i)) (nodeAt m (at i) .left) p l r q refl s in
+          let h : ltb K (split (at i)) ≡ true = lt-ltb K (split (at i)) (omega (arith, F .high, c .split)) in
+          record { low = F .low; high = omega (arith, F .high, lo-in (lo r) b r (o .1)); leads = next F (leads-to (at i) (at (suc i)) true (D .steps i (omega arith) .inner) h q) }
+      | inr q ↦ let c = children m (at i) (nodeAt m (at i)) refl false (at (suc i)) (farSeat false (nodeAt m (at i) .place)) p l r q refl s in
           let F = from n (suc i) (omega arith) r (lo r) b (c .near-at) (o .1) in
-          let h : ltb K (nodeAt m (at i) .split) ≡ false = le-ltb K (nodeAt m (at i) .split) (omega (arith, F .low, c .split)) in
-          record { low = omega (arith, F .low, lo-in a (lo r) l (o .0)); high = F .high; leads = next F (leads-to (at i) (at (suc i)) false _ _ (D .steps i (omega arith) .inner) refl refl h q) }
+          let h : ltb K (split (at i)) ≡ false = le-ltb K (split (at i)) (omega (arith, F .low, c .split)) in
+          record { low = omega (arith, F .low, lo-in a (lo r) l (o .0)); high = F .high; leads = next F (leads-to (at i) (at (suc i)) false (D .steps i (omega arith) .inner) h q) }
     ]
       where
         next : {a b : ℕ} → From (suc i) a b → Leads m K (at i) (at (suc i)) → (j : ℕ) → i ≤ j → j < d → Leads m K (at j) (at (suc j))
@@ -67,16 +74,16 @@ module _ (m : List ℕ) (t d : ℕ) (ws : List ℕ) (D : Down m t d ws) where
     K = nodeAt m (at d) .lo
 
     leaf-key : (tr : Tree) (a b : ℕ) → Stands m (at d) tr → Ord a b tr → (a ≤ K) × (K < b)
-    leaf-key (leaf p k f) a b s o = omega (arith, ap (λ (z : Node). z .lo) (seen s), o)
+    leaf-key (leaf k f) a b s o = omega (arith, ap (λ (z : Node). z .lo) (seen s), o)
     leaf-key (node p l r) a b s o = absurd (omega (arith, end, tall s))
 
     pub path-way : d < longestWay → (tr : Tree) (a b : ℕ) → Stands m t tr → Ord a b tr → Way m t K d ws
     path-way short tr a b s o = record { long = D .long; short = short; first = D .first; leads = all-lead K leaf-key tr a b s o; last = end }
 
   -- ---- down to a tree with a leaf of the key
-  module _ (sub : Tree) (p k e : ℕ) (stands : Stands m (at d) sub) (inside : In p k e sub) where
+  module _ (sub : Tree) (k e : ℕ) (stands : Stands m (at d) sub) (inside : In k e sub) where
     key-in : (tr : Tree) (a b : ℕ) → Stands m (at d) tr → Ord a b tr → (a ≤ k) × (k < b)
-    key-in tr a b s o = in-ord a b tr o p k e (rw (one-tree stands s) at inside)
+    key-in tr a b s o = in-ord a b tr o k e (rw (one-tree stands s) at inside)
 
     pub path-partway : longestWay ≤ length ws → (tr : Tree) (a b : ℕ) → Sole m t tr → Ord a b tr → Partway m t k d ws
     path-partway long tr a b s o = record { long = long; first = D .first; leads = all-lead k key-in tr a b (s .stands) o; alone = (tr, s) }

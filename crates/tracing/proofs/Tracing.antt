@@ -1,14 +1,14 @@
--- The steps of noting a way down: one place more, as long as the place reached is no leaf's.
+-- The steps of noting a way down: one seat more, as long as the seat reached is no leaf's.
 use mathlib.Core.Path.{_≡_, refl, sym, ap, _∙_}
 use mathlib.Core.Logic.{inl, inr}
+use mathlib.Core.Bool.{true}
 use mathlib.Core.List.{List, _∷_}
-use Prim.Native.Nat.{ℕ, zero, suc, _+_, _<_, _≤_}
+use Prim.Native.Nat.{ℕ, zero, suc, _+_, _*_, _<_, _≤_}
 use native.Mathlib.Decide.{ℕ-discrete}
 use native.Mathlib.Omega.{arith}
 use lib.Dec.{ltb}
 use lib.ListN.{length, getD, set, length-set}
 use lib.Seq.{getD-set-same}
-use Rattle.shape.specs.Side.{near, far}
 use Rattle.node.specs.declared.Node.{Node}
 use Rattle.node.specs.Layout.{Within, nodeAt}
 use Rattle.node.specs.Paths.{longestWay}
@@ -16,9 +16,10 @@ use Rattle.tracing.specs.Alone.{Alone}
 use Rattle.tracing.specs.Ways.{Leads, Way, Partway}
 use Rattle.node.proofs.Reps.{tall}
 use Rattle.node.proofs.Paths.{noted, noted-here}
+use Rattle.node.proofs.Seats.{nearSeat, farSeat, small-place}
 use Rattle.tracing.proofs.Below.{within-alone, down}
 
--- the way is noted down to the place `at`, d steps below t, where the node n was read
+-- the way is noted down to the seat `at`, d steps below t, where the node n was read
 pub record Tracing (m : List ℕ) (t k : ℕ) (ws0 ws : List ℕ) (at d : ℕ) (n : Node) : Type 0 where
   pub read : n ≡ nodeAt m at
   pub alone : Alone m at
@@ -29,7 +30,7 @@ pub record Tracing (m : List ℕ) (t k : ℕ) (ws0 ws : List ℕ) (at d : ℕ) (
   pub first : getD ws 0 0 ≡ t
   pub leads : (i : ℕ) → i < d → Leads m k (getD ws i 0) (getD ws (suc i) 0)
 
--- the places noted already go down a tree that stands alone, one lower at each step
+-- the seats noted already go down a tree that stands alone, one lower at each step
 module _ (m : List ℕ) (t k : ℕ) (ws : List ℕ) (d : ℕ) (P : Partway m t k d ws) where
   abbrev At : ℕ → Type 0
   At i = Alone m (getD ws i 0) × (nodeAt m (getD ws i 0) .height + i < longestWay)
@@ -39,7 +40,7 @@ module _ (m : List ℕ) (t k : ℕ) (ws : List ℕ) (d : ℕ) (P : Partway m t k
   noted-at (suc i) h =
       let A = noted-at i (omega arith) in
       let L = P .leads i (omega arith) in
-      let D = down m (getD ws i 0) (nodeAt m (getD ws i 0)) refl (L .inner) (ltb k (nodeAt m (getD ws i 0) .split)) (getD ws (suc i) 0) _ (L .to) refl (A .0) in
+      let D = down m (getD ws i 0) (nodeAt m (getD ws i 0)) refl (L .inner) (ltb k (nodeAt m (2 * nodeAt m (getD ws i 0) .place + 1) .lo)) (getD ws (suc i) 0) _ (L .to) refl (A .0) in
       (D .near-alone, omega (arith, A .1, D .lower))
 
   pub noted-low : (d < longestWay) × (d < length ws)
@@ -69,12 +70,21 @@ module _ (m : List ℕ) (t k : ℕ) (ws0 ws : List ℕ) (at d : ℕ) (n : Node) 
         last = rw (T .here) (sym (ap (λ (y : Node). y .height) (T .read)) ∙ z);
       }
 
-  module _ (nz : n .height ≡ 0 → ⊥) (x : ℕ) (ex : x ≡ near (ltb k (n .split)) (n .left) (n .right)) where
+  -- where the children of the node read stand
+  pub place-small : n .place < 65536
+  place-small = small-place m at n (T .read) (T .alone .1 .stands)
+
+  pub right-in : (n .height ≡ 0 → ⊥) → (y : ℕ) → y ≡ farSeat true (n .place) → Within m y
+  right-in nz y ey = down m at n (T .read) nz true _ y refl ey (T .alone) .far-in
+
+  -- v is the node on the right, and x the seat that its least key leads to
+  module _ (nz : n .height ≡ 0 → ⊥) (y : ℕ) (ey : y ≡ farSeat true (n .place)) (v : Node) (ev : v ≡ nodeAt m y)
+      (x : ℕ) (ex : x ≡ nearSeat (ltb k (v .lo)) (n .place)) where
     abbrev D : Type 0
     D = Alone m x × (nodeAt m x .height < nodeAt m at .height)
 
     below : D
-    below = let d = down m at n (T .read) nz (ltb k (n .split)) x _ ex refl (T .alone) in (d .near-alone, d .lower)
+    below = let d = down m at n (T .read) nz (ltb k (v .lo)) x _ ex refl (T .alone) in (d .near-alone, d .lower)
 
     pub next-in : Within m x
     next-in = within-alone m x (below .0)
@@ -83,7 +93,7 @@ module _ (m : List ℕ) (t k : ℕ) (ws0 ws : List ℕ) (at d : ℕ) (n : Node) 
     deeper = omega (arith, T .room, T .short, below .1)
 
     leads-here : Leads m k at x
-    leads-here = record { inner = λ z. nz (ap (λ (y : Node). y .height) (T .read) ∙ z); to = rw (← T .read) ex }
+    leads-here = record { inner = λ z. nz (ap (λ (y : Node). y .height) (T .read) ∙ z); to = rw (← T .read) (rw (ev, ey) at ex) }
 
     pub tracing-next : (n′ : Node) → n′ ≡ nodeAt m x → Tracing m t k ws0 (set ws (d + 1) x) x (d + 1) n′
     tracing-next n′ e =
@@ -110,6 +120,6 @@ module _ (m : List ℕ) (t k : ℕ) (ws0 ws : List ℕ) (at d : ℕ) (n : Node) 
 pub partway-head : (m : List ℕ) (t k : ℕ) (ws : List ℕ) → longestWay ≤ length (t ∷ ws) → Alone m t → Partway m t k 0 (t ∷ ws)
 partway-head m t k ws h a = record { long = h; first = refl; leads = λ i l. absurd (omega arith); alone = a }
 
--- the place reached is the one noted last
+-- the seat reached is the one noted last
 pub tracing-at : {m : List ℕ} {t k : ℕ} {ws0 ws : List ℕ} {at d : ℕ} {n : Node} → Tracing m t k ws0 ws at d n → Tracing m t k ws0 ws (getD ws d 0) d n
 tracing-at T = rw (T .here) T

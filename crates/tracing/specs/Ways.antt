@@ -1,8 +1,8 @@
--- The way from a root down to the leaf that a key leads to, as a list of places;
+-- The way from a root down to the leaf that a key leads to, as a list of seats;
 -- and what noting it asks and promises.
 use mathlib.Core.Path.{_≡_}
 use mathlib.Core.List.{List}
-use Prim.Native.Nat.{ℕ, suc, _≤_, _<_}
+use Prim.Native.Nat.{ℕ, suc, _+_, _*_, _≤_, _<_}
 use lib.Dec.{ltb}
 use lib.ListN.{length, getD}
 use Rattle.shape.specs.Tree.{Tree}
@@ -12,12 +12,12 @@ use Rattle.node.specs.Rep.{Stands}
 use Rattle.node.specs.Paths.{longestWay, Down}
 use Rattle.tracing.specs.Alone.{Alone}
 
--- from the inner node at w the key leads to the place x
+-- from the inner node at w the key leads to the seat x: to the left exactly if it is below the least key on the right
 pub record Leads (m : List ℕ) (k w x : ℕ) : Type 0 where
   pub inner : nodeAt m w .height ≡ 0 → ⊥
-  pub to : x ≡ near (ltb k (nodeAt m w .split)) (nodeAt m w .left) (nodeAt m w .right)
+  pub to : x ≡ near (ltb k (nodeAt m (2 * nodeAt m w .place + 1) .lo)) (2 * nodeAt m w .place) (2 * nodeAt m w .place + 1)
 
--- the first d + 1 places of the list are the way of the key from t down to a leaf
+-- the first d + 1 seats of the list are the way of the key from t down to a leaf
 pub record Way (m : List ℕ) (t k d : ℕ) (ws : List ℕ) : Type 0 where
   pub long : d < length ws
   pub short : d < longestWay
@@ -25,7 +25,7 @@ pub record Way (m : List ℕ) (t k d : ℕ) (ws : List ℕ) : Type 0 where
   pub leads : (i : ℕ) → i < d → Leads m k (getD ws i 0) (getD ws (suc i) 0)
   pub last : nodeAt m (getD ws d 0) .height ≡ 0
 
--- the first d + 1 places are the beginning of the key's way from t
+-- the first d + 1 seats are the beginning of the key's way from t
 pub record Partway (m : List ℕ) (t k d : ℕ) (ws : List ℕ) : Type 0 where
   pub long : longestWay ≤ length ws
   pub first : getD ws 0 0 ≡ t
