@@ -1,6 +1,3 @@
-pub mod Setting
-pub mod Growing
-pub mod Cutting
-pub mod Above
-pub mod Climbing
+pub mod Afters
+pub mod Steps
 pub mod Settling

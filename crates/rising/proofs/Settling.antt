@@ -1,89 +1,74 @@
--- The way up, step by step: by a balance (Rising) and by summing up (Settling), down to the place 0, the root.
+-- The way up, step by step: by a balance (Rising) and by summing up (Settling), to the first seat of the way, the root's.
 use mathlib.Core.Path.{_≡_, refl, sym, ap, subst, _∙_}
-use mathlib.Core.Bool.{Bool}
 use mathlib.Core.List.{List}
-use Prim.Native.Nat.{ℕ, zero, suc, _+_, _-_, _≤_, _<_}
+use Prim.Native.Nat.{ℕ, zero, suc, _+_, _*_, _-_, _/_, _≤_, _<_}
 use native.Mathlib.Omega.{arith}
-use lib.Dec.{ltb}
-use lib.ListN.{length, getD}
+use lib.ListN.{getD}
 use Rattle.node.specs.declared.Node.{Node}
 use Rattle.node.specs.Layout.{Within, nodeAt, Summable, Summed}
 use Rattle.node.proofs.Reps.{within}
-use Rattle.shape.specs.Side.{far}
-use Rattle.turning.specs.Turns.{Both, BalancesOn}
+use Rattle.turning.specs.Turns.{Both, Balances}
 use Rattle.tracing.specs.Ways.{Leads, Way}
-use Rattle.rising.specs.Rises.{Change, adding, cutting, ending, Begun, Becomes, gone, Turned, Rising, Settling}
-use Rattle.rising.proofs.Above.{Above, summable, still-summed}
-use Rattle.rising.proofs.Climbing.{above-of, both, carried, summed-up, begun-at}
+use Rattle.rising.specs.Changes.{Change, keyOf, Begins, Becomes}
+use Rattle.rising.specs.Rises.{gone, Turned, Rising, Settling}
+use Rattle.rising.proofs.Steps.{begins-down, Ready, ready, carries, sums-up, stays}
 
--- the root's place is one
-root-low : (c : Change) (m0 : List ℕ) (t : ℕ) → Begun c m0 t → t < 65536
-root-low (adding e p q) m0 t b = within (b .1 .stands) .1
-root-low (cutting p q) m0 t b = within (b .1 .stands) .1
-root-low (ending e) m0 t b = within (b .1 .stands) .1
+-- what the change asks stands at every seat of the way
+pub begins-at : (c : Change) (m0 : List ℕ) (t d : ℕ) (ws : List ℕ) → Begins c m0 t → Way m0 t (keyOf c) d ws → (i : ℕ) → i ≤ d → Begins c m0 (getD ws i 0)
+begins-at c m0 t d ws b W zero h = rw (W .first) b
+begins-at c m0 t d ws b W (suc i) h = begins-down c m0 _ _ (W .leads i (omega arith)) (begins-at c m0 t d ws b W i (omega arith))
 
-module _ (c : Change) (m0 : List ℕ) (t k d : ℕ) (ws : List ℕ) where
+module _ (c : Change) (m0 : List ℕ) (t d : ℕ) (ws : List ℕ) where
   abbrev at : ℕ → ℕ
   at i = getD ws i 0
 
-  -- the place before i
-  pub rising-before : (i : ℕ) → 1 ≤ i → (m : List ℕ) (x : ℕ) → Rising c m0 t k d ws i x m → Rising c m0 t k d ws (suc (i - 1)) x m
-  rising-before i h m x R = subst (λ z. Rising c m0 t k d ws z x m) (omega arith) R
-
-  pub settling-before : (i : ℕ) → 1 ≤ i → (m : List ℕ) → Settling c m0 t k d ws i m → Settling c m0 t k d ws (suc (i - 1)) m
-  settling-before i h m S = subst (λ z. Settling c m0 t k d ws z m) (omega arith) S
-
-  module _ (j : ℕ) (m : List ℕ) (x : ℕ) (R : Rising c m0 t k d ws (suc j) x m) where
-    leads : Leads m0 k (at j) (at (suc j))
+  module _ (j : ℕ) (m : List ℕ) (R : Rising c m0 t d ws (suc j) m) where
+    leads : Leads m0 (keyOf c) (at j) (at (suc j))
     leads = R .way .leads j (omega (arith, R .deep))
 
-    begun : Begun c m0 (at j)
-    begun = begun-at c m0 t k d ws (R .begun) (R .way) j (omega (arith, R .deep))
+    begins : Begins c m0 (at j)
+    begins = begins-at c m0 t d ws (R .begun) (R .way) j (omega (arith, R .deep))
 
     inner : 1 ≤ gone c → nodeAt m0 (at (suc j)) .height ≡ 0 → ⊥
     inner h = R .way .leads (suc j) (omega (arith, R .deep)) .inner
 
-    above : Above m0 m (ltb k (nodeAt m0 (at j) .split)) (at j) (at (suc j)) (far (ltb k (nodeAt m0 (at j) .split)) (nodeAt m0 (at j) .left) (nodeAt m0 (at j) .right))
-    above = above-of m0 k (at j) (at (suc j)) leads m x c begun (R .is)
+    step : Ready c m0 (at j) (at (suc j)) leads m (R .is) inner
+    step = ready c m0 (at j) (at (suc j)) leads m (R .is) inner begins
 
-    -- the place above is inside, and its node is as it was
-    pub rising-in : Within m (at j)
-    rising-in = above .at
+    rising-both : Both m (at j) (at (suc j) / 2)
+    rising-both = step .both
 
-    pub rising-node : nodeAt m (at j) ≡ nodeAt m0 (at j)
-    rising-node = above .node
+    rising-in : Within m (at j)
+    rising-in = rising-both .2 .room
 
-    -- by a balance, with what was read at the place
-    module _ (T : Turned c) (n : Node) (e : n ≡ nodeAt m (at j)) (y : ℕ) (ey : y ≡ far (ltb k (n .split)) (n .left) (n .right)) where
-      n-is : n ≡ nodeAt m0 (at j)
-      n-is = e ∙ rising-node
+    rising-node : nodeAt m (at j) ≡ nodeAt m0 (at j)
+    rising-node = step .node
 
-      pub rising-both : Both m (at j) x y
-      rising-both = rw (ey, n-is) (both m0 k (at j) (at (suc j)) leads m x c begun (R .is) inner T)
+    rising-next : Turned c → (m2 : List ℕ) → Balances (at j) (at (suc j) / 2) m m2 → Rising c m0 t d ws j m2
+    rising-next T m2 o =
+        record {
+          begun = R .begun;
+          way = R .way;
+          deep = omega (arith, R .deep);
+          is = carries c m0 (at j) (at (suc j)) leads m (R .is) inner T m2 o;
+        }
 
-      pub rising-next : (m2 : List ℕ) (r : ℕ) → BalancesOn (ltb k (n .split)) (at j) x y r m m2 → Rising c m0 t k d ws j r m2
-      rising-next m2 r o =
-          record {
-            begun = R .begun;
-            way = R .way;
-            deep = omega (arith, R .deep);
-            is = carried m0 k (at j) (at (suc j)) leads m x c begun (R .is) inner T m2 r (rw (ey, n-is) at o);
-          }
-
-  -- at its own place and as high as it was: from here on by summing up
-  pub rising-settling : (j : ℕ) (m : List ℕ) (x : ℕ) → Rising c m0 t k d ws j x m → x ≡ at j → (n n2 : Node) → n ≡ nodeAt m0 (at j) → n2 ≡ nodeAt m (at j) → n2 .height ≡ n .height → Settling c m0 t k d ws j m
-  rising-settling j m x R e n n2 en en2 h =
-      record {
-        rising = rw e at R;
-        high = sym (ap (λ (z : Node). z .height) en2) ∙ (h ∙ ap (λ (z : Node). z .height) en);
-      }
+  -- as high as it was: from here on by summing up
+  pub rising-settling : (j : ℕ) (m : List ℕ) → Rising c m0 t d ws j m → (n n2 : Node) → n ≡ nodeAt m0 (at j) → n2 ≡ nodeAt m (at j) → n2 .height ≡ n .height → Settling c m0 t d ws j m
+  rising-settling j m R n n2 en en2 h =
+      record { rising = R; high = sym (ap (λ (z : Node). z .height) en2) ∙ (h ∙ ap (λ (z : Node). z .height) en) }
 
   -- by summing up
-  module _ (j : ℕ) (m : List ℕ) (S : Settling c m0 t k d ws (suc j) m) where
-    pub settling-in : Summable m (at j)
-    settling-in = summable (above j m (at (suc j)) (S .rising))
+  module _ (j : ℕ) (m : List ℕ) (S : Settling c m0 t d ws (suc j) m) where
+    settling-in : Summable m (at j) (at (suc j) / 2)
+    settling-in =
+        let B = rising-both j m (S .rising) in
+        record { at = B .2 .room; left = within (B .2 .first); right = within (B .2 .second) }
 
-    pub settling-next : (m2 : List ℕ) → Summed (at j) m m2 → Settling c m0 t k d ws j m2
+    settling-node : nodeAt m (at j) ≡ nodeAt m0 (at j)
+    settling-node = rising-node j m (S .rising)
+
+    settling-next : (m2 : List ℕ) → Summed (at j) (at (suc j) / 2) m m2 → Settling c m0 t d ws j m2
     settling-next m2 o =
         let R = S .rising in
         record {
@@ -91,38 +76,65 @@ module _ (c : Change) (m0 : List ℕ) (t k d : ℕ) (ws : List ℕ) where
             begun = R .begun;
             way = R .way;
             deep = omega (arith, R .deep);
-            is = summed-up m0 k (at j) (at (suc j)) (leads j m _ R) m c (begun j m _ R) (R .is) (inner j m _ R) (S .high) m2 o;
+            is = sums-up c m0 (at j) (at (suc j)) (leads j m R) m (R .is) (inner j m R) (S .high) m2 o;
           };
-          high = ap (λ (z : Node). z .height) (o .at) ∙ ap (λ (z : Node). z .height) (rising-node j m _ R);
+          high = ap (λ (z : Node). z .height) (o .at) ∙ ap (λ (z : Node). z .height) settling-node;
         }
 
-    -- nothing has changed at the place, nor does it above
-    settling-node : nodeAt m (at j) ≡ nodeAt m0 (at j)
-    settling-node = rising-node j m _ (S .rising)
-
-    settling-still : nodeAt m (at (suc j)) ≡ nodeAt m0 (at (suc j)) → Settling c m0 t k d ws j m
-    settling-still e = settling-next m (still-summed (above j m (at (suc j)) (S .rising)) e)
+    -- nothing has changed at the seat, nor does it above
+    settling-still : nodeAt m (at (suc j)) ≡ nodeAt m0 (at (suc j)) → Settling c m0 t d ws j m
+    settling-still e = let R = S .rising in settling-next m (stays c m0 (at j) (at (suc j)) (leads j m R) m (R .is) (inner j m R) e (begins j m R))
 
   -- at the root
-  pub risen : (i : ℕ) → i ≤ 0 → (m : List ℕ) (x : ℕ) → Rising c m0 t k d ws i x m → Becomes c k t x m0 m
-  risen zero h m x R = rw (R .way .first) at (R .is)
-  risen (suc i) h m x R = absurd (omega arith)
+  pub risen : (i : ℕ) → i ≤ 0 → (m : List ℕ) → Rising c m0 t d ws i m → Becomes c t m0 m
+  risen zero h m R = rw (R .way .first) at (R .is)
+  risen (suc i) h m R = absurd (omega arith)
 
-  pub settled : (i : ℕ) → i ≤ 0 → (m : List ℕ) → Settling c m0 t k d ws i m → Becomes c k t t m0 m
-  settled zero h m S = rw (S .rising .way .first) at (S .rising .is)
-  settled (suc i) h m S = absurd (omega arith)
+  pub settled : (i : ℕ) → i ≤ 0 → (m : List ℕ) → Settling c m0 t d ws i m → Becomes c t m0 m
+  settled i h m S = risen i h m (S .rising)
 
-  -- the first place of the way is the root's
-  pub first-low : (i : ℕ) (m : List ℕ) (x : ℕ) → Rising c m0 t k d ws i x m → getD ws 0 0 < 65536
-  first-low i m x R = omega (arith, R .way .first, root-low c m0 t (R .begun))
-
-  pub at-first : (i : ℕ) (m m2 : List ℕ) (x : ℕ) → Rising c m0 t k d ws i x m → Becomes c k t t m0 m2 → Becomes c k t (getD ws 0 0) m0 m2
-  at-first i m m2 x R b = rw (R .way .first) b
-
-  stopped : (i : ℕ) (m : List ℕ) → Settling c m0 t k d ws i m → nodeAt m (at i) ≡ nodeAt m0 (at i) → Becomes c k t t m0 m
+  stopped : (i : ℕ) (m : List ℕ) → Settling c m0 t d ws i m → nodeAt m (at i) ≡ nodeAt m0 (at i) → Becomes c t m0 m
   stopped zero m S e = settled zero (omega arith) m S
   stopped (suc i) m S e = stopped i m (settling-still i m S e) (settling-node i m S)
 
-  -- a place whose sums stay: the way above it stays too
-  pub halted : (j : ℕ) (m m2 : List ℕ) → Settling c m0 t k d ws (suc j) m → Summed (at j) m m2 → m2 ≡ m → Becomes c k t t m0 m2
+  -- a seat whose sums stay: the way above it stays too
+  halted : (j : ℕ) (m m2 : List ℕ) → Settling c m0 t d ws (suc j) m → Summed (at j) (at (suc j) / 2) m m2 → m2 ≡ m → Becomes c t m0 m2
   halted j m m2 S o e = stopped j m2 (settling-next j m S m2 o) (rw e (settling-node j m S))
+
+  -- ---- the same from the seat i to the one before it
+  module _ (i : ℕ) (h : 1 ≤ i) where
+    next : suc (i - 1) ≡ i
+    next = omega arith
+
+    module _ (m : List ℕ) (R : Rising c m0 t d ws i m) where
+      back : Rising c m0 t d ws (suc (i - 1)) m
+      back = subst (λ z. Rising c m0 t d ws z m) (sym next) R
+
+      pub both-above : Both m (at (i - 1)) (at i / 2)
+      both-above = subst (λ z. Both m (at (i - 1)) (at z / 2)) next (rising-both (i - 1) m back)
+
+      pub within-above : Within m (at (i - 1))
+      within-above = rising-in (i - 1) m back
+
+      pub node-above : nodeAt m (at (i - 1)) ≡ nodeAt m0 (at (i - 1))
+      node-above = rising-node (i - 1) m back
+
+      pub rises : Turned c → (m2 : List ℕ) → Balances (at (i - 1)) (at i / 2) m m2 → Rising c m0 t d ws (i - 1) m2
+      rises T m2 o = rising-next (i - 1) m back T m2 (subst (λ z. Balances (at (i - 1)) (at z / 2) m m2) (sym next) o)
+
+    module _ (m : List ℕ) (S : Settling c m0 t d ws i m) where
+      back-settling : Settling c m0 t d ws (suc (i - 1)) m
+      back-settling = subst (λ z. Settling c m0 t d ws z m) (sym next) S
+
+      pub summable-above : Summable m (at (i - 1)) (at i / 2)
+      summable-above = subst (λ z. Summable m (at (i - 1)) (at z / 2)) next (settling-in (i - 1) m back-settling)
+
+      module _ (m2 : List ℕ) (o : Summed (at (i - 1)) (at i / 2) m m2) where
+        summed : Summed (at (i - 1)) (at (suc (i - 1)) / 2) m m2
+        summed = subst (λ z. Summed (at (i - 1)) (at z / 2) m m2) (sym next) o
+
+        pub settles : Settling c m0 t d ws (i - 1) m2
+        settles = settling-next (i - 1) m back-settling m2 summed
+
+        pub halts : m2 ≡ m → Becomes c t m0 m2
+        halts e = halted (i - 1) m m2 back-settling summed e
