@@ -2,31 +2,42 @@
 // What is left of a node's two sides after a sweep need not be of like heights: a balance alone is not enough.
 ghost use Rattle.turning.specs.Turns.{Both};
 ghost use Rattle.joining.specs.Joins.{Hangs, Joins};
+use node::copy;
+use node::far;
+use node::load;
+use node::near;
+use summing::mend;
+use turning::balance;
 
-// Puts w over a tree that is higher, on the side named, and a lower one, as far down the higher one's inner edge as their heights ask.
-// The new root's place.
-fn hang(mem: &mut [u8], w: usize, high: usize, low: usize, left: bool) -> usize
-    requires { ⌜ Both (now mem) w high low ⌝ }
-    ensures { λ t. ⌜ Hangs left w high low t (now (mem .entry)) (now (mem .exit)) ⌝ }
+// Puts a node at seat s over the two trees at place w, of which the one on the side named is higher, as far down its inner edge as their
+// heights ask.
+fn hang(mem: &mut [u8], s: usize, w: u64, left: bool)
+    requires { ⌜ Both (now mem) s w ⌝ }
+    ensures { λ _. ⌜ Hangs left s w (now (mem .entry)) (now (mem .exit)) ⌝ }
 {
-    let n = node::load(mem, high);
-    if n.height <= node::load(mem, low).height + 1 {
-        turning::mend_on(mem, w, high, low, left);
-        return w;
+    let high = near(left, w);
+    let n = load(mem, high);
+    if n.height <= load(mem, far(left, w)).height + 1 {
+        mend(mem, s, w);
+        return;
     }
-    let inner = turning::far(left, n.left, n.right);
-    let x = hang(mem, w, inner, low, left);
-    turning::balance_on(mem, high, turning::near(left, n.left, n.right), x, left)
+    // the inner child goes beside the lower tree, and what comes of the two to where it was
+    let inner = far(left, n.place);
+    copy(mem, inner, high);
+    hang(mem, inner, w, left);
+    balance(mem, s, n.place);
 }
 
-// Puts w over two trees of any heights. The new root's place.
-pub fn join(mem: &mut [u8], w: usize, l: usize, r: usize) -> usize
-    requires { ⌜ Both (now mem) w l r ⌝ }
-    ensures { λ t. ⌜ Joins w l r t (now (mem .entry)) (now (mem .exit)) ⌝ }
+// Puts a node at seat s over the two trees at place w, of any heights.
+pub fn join(mem: &mut [u8], s: usize, w: u64)
+    requires { ⌜ Both (now mem) s w ⌝ }
+    ensures { λ _. ⌜ Joins s w (now (mem .entry)) (now (mem .exit)) ⌝ }
 {
-    if node::load(mem, r).height <= node::load(mem, l).height {
-        hang(mem, w, l, r, true)
+    let l = load(mem, near(true, w)).height;
+    let r = load(mem, far(true, w)).height;
+    if r <= l {
+        hang(mem, s, w, true);
     } else {
-        hang(mem, w, r, l, false)
+        hang(mem, s, w, false);
     }
 }
