@@ -9,14 +9,14 @@ use Rattle.node.specs.Layout.{Within, nodeAt, Summable, Summed}
 use Rattle.node.proofs.Reps.{within}
 use Rattle.turning.specs.Turns.{Both, Balances}
 use Rattle.tracing.specs.Ways.{Leads, Way}
-use Rattle.rising.specs.Changes.{Change, keyOf, Begins, Becomes}
+use Rattle.rising.specs.Changes.{Change, keyOf, Ready, Becomes}
 use Rattle.rising.specs.Rises.{gone, Turned, Rising, Settling}
-use Rattle.rising.proofs.Steps.{begins-down, Ready, ready, carries, sums-up, stays}
+use Rattle.rising.proofs.Steps.{ready-down, Step, step-at, carries, sums-up, stays}
 
 -- what the change asks stands at every seat of the way
-pub begins-at : (c : Change) (m0 : List ℕ) (t d : ℕ) (ws : List ℕ) → Begins c m0 t → Way m0 t (keyOf c) d ws → (i : ℕ) → i ≤ d → Begins c m0 (getD ws i 0)
-begins-at c m0 t d ws b W zero h = rw (W .first) b
-begins-at c m0 t d ws b W (suc i) h = begins-down c m0 _ _ (W .leads i (omega arith)) (begins-at c m0 t d ws b W i (omega arith))
+pub ready-at : (c : Change) (m0 : List ℕ) (t d : ℕ) (ws : List ℕ) → Ready c m0 t → Way m0 t (keyOf c) d ws → (i : ℕ) → i ≤ d → Ready c m0 (getD ws i 0)
+ready-at c m0 t d ws b W zero h = rw (W .first) b
+ready-at c m0 t d ws b W (suc i) h = ready-down c m0 _ _ (W .leads i (omega arith)) (ready-at c m0 t d ws b W i (omega arith))
 
 module _ (c : Change) (m0 : List ℕ) (t d : ℕ) (ws : List ℕ) where
   abbrev at : ℕ → ℕ
@@ -26,14 +26,14 @@ module _ (c : Change) (m0 : List ℕ) (t d : ℕ) (ws : List ℕ) where
     leads : Leads m0 (keyOf c) (at j) (at (suc j))
     leads = R .way .leads j (omega (arith, R .deep))
 
-    begins : Begins c m0 (at j)
-    begins = begins-at c m0 t d ws (R .begun) (R .way) j (omega (arith, R .deep))
+    ready : Ready c m0 (at j)
+    ready = ready-at c m0 t d ws (R .begun) (R .way) j (omega (arith, R .deep))
 
     inner : 1 ≤ gone c → nodeAt m0 (at (suc j)) .height ≡ 0 → ⊥
     inner h = R .way .leads (suc j) (omega (arith, R .deep)) .inner
 
-    step : Ready c m0 (at j) (at (suc j)) leads m (R .is) inner
-    step = ready c m0 (at j) (at (suc j)) leads m (R .is) inner begins
+    step : Step c m0 (at j) (at (suc j)) leads m (R .is) inner
+    step = step-at c m0 (at j) (at (suc j)) leads m (R .is) inner ready
 
     rising-both : Both m (at j) (at (suc j) / 2)
     rising-both = step .both
@@ -83,7 +83,7 @@ module _ (c : Change) (m0 : List ℕ) (t d : ℕ) (ws : List ℕ) where
 
     -- nothing has changed at the seat, nor does it above
     settling-still : nodeAt m (at (suc j)) ≡ nodeAt m0 (at (suc j)) → Settling c m0 t d ws j m
-    settling-still e = let R = S .rising in settling-next m (stays c m0 (at j) (at (suc j)) (leads j m R) m (R .is) (inner j m R) e (begins j m R))
+    settling-still e = let R = S .rising in settling-next m (stays c m0 (at j) (at (suc j)) (leads j m R) m (R .is) (inner j m R) e (ready j m R))
 
   -- at the root
   pub risen : (i : ℕ) → i ≤ 0 → (m : List ℕ) → Rising c m0 t d ws i m → Becomes c t m0 m

@@ -21,7 +21,7 @@ use Rattle.node.proofs.Seats.{nearSeat, farSeat, near-half, far-half, near-far,
 use Rattle.turning.specs.Turns.{Two, Both, Balances}
 use Rattle.turning.proofs.Sides.{uses-sides, seat-free, two-over}
 use Rattle.tracing.specs.Ways.{Leads}
-use Rattle.rising.specs.Changes.{Change, keyOf, after, fresh, Begun, Begins, Changed, Becomes}
+use Rattle.rising.specs.Changes.{Change, keyOf, after, fresh, Begun, Ready, Changed, Becomes}
 use Rattle.rising.specs.Rises.{gone, Turned}
 use Rattle.rising.proofs.Afters.{after-uses, after-height, after-side, after-flat}
 
@@ -166,10 +166,10 @@ module _ (c : Change) (m0 : List ℕ) (w x : ℕ) (L : Leads m0 (keyOf c) w x) w
 
 -- ---- of whatever tree stands at w: it is no leaf
 module _ (c : Change) (m0 : List ℕ) (w x : ℕ) (L : Leads m0 (keyOf c) w x) where
-  pub begins-down : Begins c m0 w → Begins c m0 x
-  begins-down b = go (b .0) (b .1)
+  pub ready-down : Ready c m0 w → Ready c m0 x
+  ready-down b = go (b .0) (b .1)
     where
-      go : (tr : Tree) → Begun c m0 w tr → Begins c m0 x
+      go : (tr : Tree) → Begun c m0 w tr → Ready c m0 x
       go (leaf j f) B = absurd (L .inner (tall (B .stands)))
       go (node v l r) B = (_, begun-near c m0 w x L v l r B)
 
@@ -178,14 +178,14 @@ module _ (c : Change) (m0 : List ℕ) (w x : ℕ) (L : Leads m0 (keyOf c) w x) w
     kid-high v l r B h = omega (arith, inner h, tall (begun-near c m0 w x L v l r B .stands))
 
     -- what the step asks, and that the node at w is as it was
-    pub record Ready : Type 0 where
+    pub record Step : Type 0 where
       pub both : Both m w (x / 2)
       pub node : nodeAt m w ≡ nodeAt m0 w
 
-    pub ready : Begins c m0 w → Ready
-    ready b = go (b .0) (b .1)
+    pub step-at : Ready c m0 w → Step
+    step-at b = go (b .0) (b .1)
       where
-        go : (tr : Tree) → Begun c m0 w tr → Ready
+        go : (tr : Tree) → Begun c m0 w tr → Step
         go (leaf j f) B = absurd (L .inner (tall (B .stands)))
         go (node v l r) B =
             record { both = both-at c m0 w x L v l r B m g (kid-high v l r B); node = node-same c m0 w x L v l r B m g (kid-high v l r B) }
@@ -198,7 +198,7 @@ module _ (c : Change) (m0 : List ℕ) (w x : ℕ) (L : Leads m0 (keyOf c) w x) w
     sums-up h m2 o (leaf j f) B = absurd (L .inner (tall (B .stands)))
     sums-up h m2 o (node v l r) B = summed-up c m0 w x L v l r B m g (kid-high v l r B) h m2 (rw (x-half c m0 w x L v l r B) at o)
 
-    pub stays : nodeAt m x ≡ nodeAt m0 x → Begins c m0 w → Summed w (x / 2) m m
+    pub stays : nodeAt m x ≡ nodeAt m0 x → Ready c m0 w → Summed w (x / 2) m m
     stays e b = go (b .0) (b .1)
       where
         go : (tr : Tree) → Begun c m0 w tr → Summed w (x / 2) m m

@@ -37,8 +37,8 @@ pub record Begun (c : Change) (m : List ℕ) (t : ℕ) (tr : Tree) : Type 0 wher
   pub even : Balanced tr
   pub low : height tr < longestWay
 
-abbrev pub Begins : Change → List ℕ → (t : ℕ) → Type 0
-Begins c m t = (tr : Tree) × Begun c m t tr
+abbrev pub Ready : Change → List ℕ → (t : ℕ) → Type 0
+Ready c m t = (tr : Tree) × Begun c m t tr
 
 -- ---- what it promises
 pub record Changed (c : Change) (t : ℕ) (tr : Tree) (m m′ : List ℕ) : Type 0 where

@@ -6,7 +6,7 @@ use Prim.Native.Nat.{ℕ, _+_, _≤_}
 use lib.ListN.{getD}
 use Rattle.node.specs.Layout.{nodeAt}
 use Rattle.tracing.specs.Ways.{Way}
-use Rattle.rising.specs.Changes.{Change, adding, cutting, ending, keyOf, Begins, Becomes}
+use Rattle.rising.specs.Changes.{Change, adding, cutting, ending, keyOf, Ready, Becomes}
 
 -- how many seats of the way a change takes away at its end
 abbrev pub gone : Change → ℕ
@@ -16,7 +16,7 @@ gone (ending k e) = 0
 
 -- the change is carried up to the seat i of the way: the tree there is changed; above it all is as it was in m0
 pub record Rising (c : Change) (m0 : List ℕ) (t d : ℕ) (ws : List ℕ) (i : ℕ) (m : List ℕ) : Type 0 where
-  pub begun : Begins c m0 t
+  pub begun : Ready c m0 t
   pub way : Way m0 t (keyOf c) d ws
   pub deep : i + gone c ≤ d
   pub is : Becomes c (getD ws i 0) m0 m
