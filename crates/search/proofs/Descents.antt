@@ -2,9 +2,9 @@
 -- What the code has of the child that it goes to makes what its caller is told.
 use mathlib.Core.Path.{_≡_, refl}
 use mathlib.Core.Logic.{inl, inr}
-use mathlib.Core.Bool.{Bool, true, false, not}
+use mathlib.Core.Bool.{true, false, not}
 use mathlib.Core.List.{List}
-use Prim.Native.Nat.{ℕ, _+_, _*_, _<_, _≤_}
+use Prim.Native.Nat.{ℕ, _+_, _*_, _≤_}
 use native.Mathlib.Omega.{arith}
 use lib.Dec.{leb}
 use Rattle.numbers.specs.Case.{pick, case-le}
@@ -46,8 +46,3 @@ module _ (m : List ℕ) (s f : ℕ) (n : Node) (e : n ≡ nodeAt m s) where
 -- its visits are few
 pub few : (m : List ℕ) (s f : ℕ) (d : Descent) → Descendable m s → ((t : Tree) → Stands m s t → Descended m f t d) → d .visits ≤ 2 * highest
 few m s f d g k = omega (arith, k (g .0) (g .1) .counts, descended-most f (g .0))
-
--- and those of a step
-pub step-few : (b : Bool) (v : ℕ) → v ≡ pick b 2 1 → v ≤ 2
-step-few true v e = omega arith
-step-few false v e = omega arith

@@ -1,9 +1,9 @@
 -- What the node at a seat tells of the tree that stands there: a leaf, or an inner node over two trees that stand
 -- at the two seats of its place. A side is true for the left (crates/shape/specs/Side.antt).
-use mathlib.Core.Path.{_≡_, sym, ap, _∙_}
+use mathlib.Core.Path.{_≡_, ap, _∙_}
 use mathlib.Core.Bool.{Bool, true, false}
 use mathlib.Core.List.{List}
-use Prim.Native.Nat.{ℕ, _+_, _<_, _≤_, max}
+use Prim.Native.Nat.{ℕ, _+_, _<_, max}
 use native.Mathlib.Omega.{arith}
 use Rattle.shape.specs.Tree.{Tree, leaf, node, height, lo, top}
 use Rattle.shape.specs.Side.{near}

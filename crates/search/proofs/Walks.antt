@@ -2,9 +2,9 @@
 -- On the way, a part of the tree stands at the seat noted last, and the marked node beside one noted before.
 use mathlib.Core.Path.{_≡_, refl, sym, ap, _∙_}
 use mathlib.Core.Logic.{inl, inr}
-use mathlib.Core.Bool.{Bool, true, false, not}
+use mathlib.Core.Bool.{true, false, not}
 use mathlib.Core.List.{List}
-use Prim.Native.Nat.{ℕ, _+_, _*_, _-_, _%_, _<_, _≤_}
+use Prim.Native.Nat.{ℕ, _+_, _*_, _-_, _<_, _≤_}
 use native.Mathlib.Omega.{arith}
 use lib.Dec.{leb, ltb}
 use lib.ListN.{length, getD, set}
@@ -19,7 +19,7 @@ use Rattle.node.specs.declared.Node.{Node}
 use Rattle.node.specs.Layout.{highest, nodeAt}
 use Rattle.node.specs.Rep.{Stands}
 use Rattle.node.proofs.Paths.{noted}
-use Rattle.search.specs.Search.{Beside, Marks, Walked}
+use Rattle.search.specs.Search.{Marks, Walked}
 use Rattle.search.proofs.Look.{childOf, Inner, leaf-here, inner-here, top-here, lo-here}
 
 -- on the way down t, noted in ws, d steps below its root, with the mark j and after v visits

@@ -1,7 +1,7 @@
 -- What the search's contracts say, in the words of the tree's definitions (crates/shape/specs/Visits.antt).
 -- Each speaks of whatever tree stands at the seat; none says how the code goes.
 use mathlib.Core.Path.{_≡_, refl, sym, ap}
-use mathlib.Core.Bool.{Bool, true, false}
+use mathlib.Core.Bool.{true, false}
 use mathlib.Core.List.{List}
 use Prim.Native.Nat.{ℕ, _+_, _-_, _%_, _≤_, _<_}
 use lib.ListN.{length, getD}

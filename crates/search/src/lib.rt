@@ -36,7 +36,7 @@ pub struct Found {
 
 // The visits of a step down: one, or two where both children are looked at.
 fn step_visits(both: bool) -> u64
-    ensures { λ v. ⌜ v ≡ pick both 2 1 ⌝ }
+    ensures { λ v. ⌜ (v ≡ pick both 2 1) × (v ≤ 2) ⌝ }
 {
     if both { 2 } else { 1 }
 }
@@ -59,10 +59,7 @@ pub fn descend(mem: &[u8], s: usize, f: u64) -> Descent
 {
     let n = node::load(mem, s);
     if n.height == 0 {
-        return Descent {
-            seat: s,
-            visits: 0,
-        };
+        return Descent { seat: s, visits: 0 };
     }
     let right = node::load(mem, node::far(true, n.place));
     let late = f <= right.top;

@@ -1,12 +1,13 @@
 use Prim.Native.Nat.{ℕ, _<_}
-use mathlib.Core.Bool.{true, false, not}
+use mathlib.Core.Bool.{Bool, false, not}
 use native.Mathlib.Omega.{arith}
 use lib.Dec.{leb}
+use Rattle.node.specs.declared.Node.{Node}
 use Rattle.node.specs.Layout.{nodeAt}
 use Rattle.node.proofs.Reps.{within}
 use Rattle.node.proofs.Seats.{small-place}
 use Rattle.search.proofs.Look.{child-within, child-lower, child-searchable}
-use Rattle.search.proofs.Descents.{ends-here, goes-on, few, step-few}
+use Rattle.search.proofs.Descents.{ends-here, goes-on, few}
 use borrow.Fn.Kinds.{In}
 use borrow.Fn.PlainCycle.{Measures, is, falls, and}
 use Rattle.search.proofs.descend.Reads as descend
@@ -32,6 +33,10 @@ descend-below t = and 1 descend-kinds.ps (falls 1 descend-kinds.ps _<_ μ-descen
 abbrev calls : ℕ → descend-lts.Claims
 calls t = (load-reads.Asked, load-reads.Learnt, far-reads.Asked, far-reads.Learnt, near-reads.Asked, near-reads.Learnt, descend-below t, descend.Post, step-visits-reads.Asked, step-visits-reads.Learnt)
 
+-- the side gone to, y being the node looked at first
+abbrev side : ℕ → Node → Bool
+side f y = not (leb f (y .top))
+
 descend-load-requires : (t : ℕ) → descend-lts.Need-load-requires (calls t) (descend-at t) descend.Post
 descend-load-requires t c κs = within (c .before .pre .1 .1)
 
@@ -49,8 +54,8 @@ descend-near-requires t c κs = omega (arith, small-place _ _ _ (c .before .befo
 
 descend-descend-requires : (t : ℕ) → descend-lts.Need-descend-requires (calls t) (descend-at t) descend.Post
 descend-descend-requires t c κs = (
-  omega (arith, child-lower (not (leb (c .before .before .before .before .before .before .before .before .args .f) (c .before .before .load2 .result .top))) (c .before .before .before .before .before .before .load .ensures) (c .before .before .before .before .if1 .left) _ (c .near .ensures) _ (c .before .before .before .before .before .before .before .before .pre .1 .1), c .before .before .before .before .before .before .before .before .pre .0),
-  child-searchable (not (leb (c .before .before .before .before .before .before .before .before .args .f) (c .before .before .load2 .result .top))) (c .before .before .before .before .before .before .load .ensures) (c .before .before .before .before .if1 .left) _ (c .near .ensures) (c .before .before .before .before .before .before .before .before .pre .1),
+  omega (arith, child-lower (side (c .before .before .before .before .before .before .before .before .args .f) (c .before .before .load2 .result)) (c .before .before .before .before .before .before .load .ensures) (c .before .before .before .before .if1 .left) _ (c .near .ensures) _ (c .before .before .before .before .before .before .before .before .pre .1 .1), c .before .before .before .before .before .before .before .before .pre .0),
+  child-searchable (side (c .before .before .before .before .before .before .before .before .args .f) (c .before .before .load2 .result)) (c .before .before .before .before .before .before .load .ensures) (c .before .before .before .before .if1 .left) _ (c .near .ensures) (c .before .before .before .before .before .before .before .before .pre .1),
 )
 
 descend-step-visits-requires : (t : ℕ) → descend-lts.Need-step-visits-requires (calls t) (descend-at t) descend.Post
@@ -58,11 +63,11 @@ descend-step-visits-requires t c κs = tt
 
 descend-add-t11 : (t : ℕ) → descend-lts.Need-add-t11 (calls t) (descend-at t) descend.Post
 descend-add-t11 t c =
-    let s = child-searchable (not (leb (c .before .before .before .before .before .before .before .before .before .before .before .args .f) (c .before .before .before .before .before .load2 .result .top))) (c .before .before .before .before .before .before .before .before .before .load .ensures) (c .before .before .before .before .before .before .before .if1 .left) _ (c .before .before .before .near .ensures) (c .before .before .before .before .before .before .before .before .before .before .before .pre .1) in
-    omega (arith, few _ _ (c .before .before .before .before .before .before .before .before .before .before .before .args .f) _ s (c .before .before .descend .ensures), step-few (not (leb (c .before .before .before .before .before .before .before .before .before .before .before .args .f) (c .before .before .before .before .before .load2 .result .top))) _ (c .before .step-visits .ensures))
+    let s = child-searchable (side (c .before .before .before .before .before .before .before .before .before .before .before .args .f) (c .before .before .before .before .before .load2 .result)) (c .before .before .before .before .before .before .before .before .before .load .ensures) (c .before .before .before .before .before .before .before .if1 .left) _ (c .before .before .before .near .ensures) (c .before .before .before .before .before .before .before .before .before .before .before .pre .1) in
+    omega (arith, few _ _ (c .before .before .before .before .before .before .before .before .before .before .before .args .f) _ s (c .before .before .descend .ensures), c .before .step-visits .ensures .1)
 
 descend-returns-2 : (t : ℕ) → descend-lts.Need-returns-2 (calls t) (descend-at t) descend.Post
-descend-returns-2 t c = goes-on _ _ _ _ (c .before .before .before .before .before .before .before .before .before .load .ensures) (c .before .before .before .before .before .before .before .if1 .left) _ (c .before .before .before .before .before .before .far .ensures) _ (c .before .before .before .before .before .load2 .ensures) _ (c .before .before .before .near .ensures) (c .before .before .descend .result) (c .before .before .descend .ensures) _ (c .before .step-visits .ensures)
+descend-returns-2 t c = goes-on _ _ _ _ (c .before .before .before .before .before .before .before .before .before .load .ensures) (c .before .before .before .before .before .before .before .if1 .left) _ (c .before .before .before .before .before .before .far .ensures) _ (c .before .before .before .before .before .load2 .ensures) _ (c .before .before .before .near .ensures) (c .before .before .descend .result) (c .before .before .descend .ensures) _ (c .before .step-visits .ensures .0)
 
 pub +descend-spec : {M : Type 1} → statement M
 +descend-spec =

@@ -35,9 +35,10 @@ same-length c = search needs
 returns : tie.Need-returns
 returns c =
     let w = c .before .before .before .before .before .before .before .walk .ensures in
-    let e = c .before .before .before .load .ensures in
-    ((λ t s. answer-leaf _ _ _ _ _ _ (w .0) _ e _ (c .before .before .start .ensures) _ (c .before .fits2 .ensures) t s (c .if1 .taken) _),
-    (λ h. reaches-leaf _ _ _ _ _ _ (w .0) (w .1) _ (c .before .before .before .before .before .before .before .before .before .before .before .pre .0 .1) _ e))
+    let e = c .before .before .before .load .ensures in (
+      (λ t s. answer-leaf _ _ _ _ _ _ (w .0) _ e _ (c .before .before .start .ensures) _ (c .before .fits2 .ensures) t s (c .if1 .taken) _),
+      (λ h. reaches-leaf _ _ _ _ _ _ (w .0) (w .1) _ (c .before .before .before .before .before .before .before .before .before .before .before .pre .0 .1) _ e),
+    )
 
 mul-seat : tie.Need-mul-seat
 mul-seat c = let w = c .before .before .before .before .before .before .before .before .walk .ensures in omega (arith, mark-low _ _ _ _ _ _ (w .0) (w .1) _ (c .before .before .before .before .before .before .before .before .before .before .before .before .pre .0 .1) (c .if2 .taken) .1)
@@ -70,7 +71,7 @@ mul-way : tie.Need-mul-way
 mul-way c = let w = c .before .before .before .before .before .before .before .before .before .before .before .walk .ensures in omega (arith, mark-low _ _ _ _ _ _ (w .0) (w .1) _ (c .before .before .before .before .before .before .before .before .before .before .before .before .before .before .before .pre .0 .1) (c .before .before .before .if2 .taken) .1)
 
 slice-write-way : tie.Need-slice-write-way
-slice-write-way c = let w = c .before .before .before .before .before .before .before .before .before .before .before .walk .ensures in mark-low _ _ _ _ _ _ (w .0) (w .1) _ (c .before .before .before .before .before .before .before .before .before .before .before .before .before .before .before .pre .0 .1) (c .before .before .before .if2 .taken) .0
+slice-write-way c = let w = c .before .before .before .before .before .before .before .before .before .before .before .walk .ensures in omega (arith, mark-low _ _ _ _ _ _ (w .0) (w .1) _ (c .before .before .before .before .before .before .before .before .before .before .before .before .before .before .before .pre .0 .1) (c .before .before .before .if2 .taken) .0)
 
 add-t27 : tie.Need-add-t27
 add-t27 c =
@@ -85,18 +86,20 @@ returns-2 : tie.Need-returns-2
 returns-2 c =
     let w = c .before .before .before .before .before .before .before .before .before .before .before .before .before .walk .ensures in
     let d = c .before .before .before .descend .ensures in
-    let b = c .before .before .load2 .ensures in
-    ((λ t s. answer-deep _ _ _ _ _ _ (w .0) _ (c .before .before .before .before .before .before .before .before .before .load .ensures) _ (c .before .before .before .before .before .before .before .before .start .ensures) _ (c .before .before .before .before .before .before .before .fits2 .ensures) t s (c .before .before .before .before .before .before .if1 .left) (c .before .before .before .before .before .if2 .taken) _ d _ b _),
-    (λ h. reaches-mark _ _ _ _ _ _ (w .0) (w .1) _ (c .before .before .before .before .before .before .before .before .before .before .before .before .before .before .before .before .before .pre .0 .1) (c .before .before .before .before .before .if2 .taken) _ d _ b))
+    let b = c .before .before .load2 .ensures in (
+      (λ t s. answer-deep _ _ _ _ _ _ (w .0) _ (c .before .before .before .before .before .before .before .before .before .load .ensures) _ (c .before .before .before .before .before .before .before .before .start .ensures) _ (c .before .before .before .before .before .before .before .fits2 .ensures) t s (c .before .before .before .before .before .before .if1 .left) (c .before .before .before .before .before .if2 .taken) _ d _ b _),
+      (λ h. reaches-mark _ _ _ _ _ _ (w .0) (w .1) _ (c .before .before .before .before .before .before .before .before .before .before .before .before .before .before .before .before .before .pre .0 .1) (c .before .before .before .before .before .if2 .taken) _ d _ b),
+    )
 
 same-length-3 : tie.Need-same-length-3
 same-length-3 c = search needs
 
 returns-3 : tie.Need-returns-3
 returns-3 c =
-    let w = c .before .before .before .before .before .before .before .before .walk .ensures in
-    ((λ t s. answer-none _ _ _ _ _ _ (w .0) _ (c .before .before .before .before .load .ensures) _ (c .before .before .before .start .ensures) _ (c .before .before .fits2 .ensures) t s (c .before .if1 .left) (c .if2 .left) _),
-    (λ h. absurd (false≢true h)))
+    let w = c .before .before .before .before .before .before .before .before .walk .ensures in (
+      (λ t s. answer-none _ _ _ _ _ _ (w .0) _ (c .before .before .before .before .load .ensures) _ (c .before .before .before .start .ensures) _ (c .before .before .fits2 .ensures) t s (c .before .if1 .left) (c .if2 .left) _),
+      (λ h. absurd (false≢true h)),
+    )
 
 pub search-spec : {M : Type 1} → statement M
 search-spec =

@@ -11,7 +11,6 @@ use Rattle.node.specs.Rep.{Stands}
 use Rattle.node.proofs.Reps.{heightOf, within}
 use Rattle.node.proofs.Seats.{small-place}
 use Rattle.search.proofs.Look.{child-within, child-lower}
-use Rattle.search.proofs.Descents.{step-few}
 use Rattle.search.proofs.Walks.{On, on-root, on-few, on-next, on-leaf}
 use Rattle.search.proofs.Treads.{Treading, treading-start, noted-node, turns, deeper, treading-next, trodden}
 use Rattle.search.proofs.walk.Statement.{statement}
@@ -71,7 +70,7 @@ step-visits-requires c κs = tt
 add-visits : tie.Need-add-visits Inv-loop μ-loop
 add-visits c =
     let few = on-few _ _ _ _ _ _ _ _ (c .before .before .before .before .before .before .before .before .before .before .before .loop .inv .1 _ (c .before .before .before .before .before .before .before .before .before .before .before .before .before .before .before .pre .0 .1)) (omega (arith, c .before .before .before .before .before .before .before .before .before .before .before .before .before .before .before .pre .0 .2)) in
-    omega (arith, few, step-few (ltb (c .before .before .before .before .before .before .before .load2 .result .lo) ((c .before .before .before .before .before .before .before .before .before .before .before .before .before .before .before .args .r + 1) * perTick)) _ (c .step-visits .ensures))
+    omega (arith, few, c .step-visits .ensures .1)
 
 cast-way-2 : tie.Need-cast-way-2 Inv-loop μ-loop
 cast-way-2 c = omega (arith, child-within (not (ltb (c .before .before .before .before .before .before .before .load2 .result .lo) ((c .before .before .before .before .before .before .before .before .before .before .before .before .before .before .before .args .r + 1) * perTick))) (c .before .before .before .before .before .before .before .before .before .before .before .loop .inv .0) (c .before .before .before .before .before .before .before .before .before .if1 .taken) _ (c .before .before .before .near2 .ensures) _ (c .before .before .before .before .before .before .before .before .before .before .before .loop .inv .1 _ (c .before .before .before .before .before .before .before .before .before .before .before .before .before .before .before .pre .0 .1) .reached))
@@ -101,10 +100,11 @@ loop-again c =
     let x = c .before .before .before .before .near2 .ensures in
     let i = c .before .before .step-mark .ensures in
     let deep = deeper _ _ _ _ _ _ T _ e h .0 in
-    let lower = child-lower (not right) e h _ x _ (l .inv .1 _ (c .before .before .before .before .before .before .before .before .before .before .before .before .before .before .before .before .pre .0 .1) .reached) in
-    (noted-node _ (l .way) (l .depth) _ _ deep (c .load4 .ensures),
-    (λ t s. on-next _ _ _ t _ _ _ _ (l .inv .1 t s) _ e h deep (T .turn) _ (c .before .before .before .before .before .before .before .before .before .far .ensures) _ (c .before .before .before .before .before .before .before .before .load2 .ensures) _ (c .before .before .before .before .before .before .before .near .ensures) _ (c .before .before .before .before .before .before .load3 .ensures) _ x _ i _ (c .before .step-visits .ensures)),
-    treading-next _ _ _ _ _ _ T _ e h (not right) _ x lower _ (turns right late (l .depth) (l .mark) _ (T .turn) i))
+    let lower = child-lower (not right) e h _ x _ (l .inv .1 _ (c .before .before .before .before .before .before .before .before .before .before .before .before .before .before .before .before .pre .0 .1) .reached) in (
+      noted-node _ (l .way) (l .depth) _ _ deep (c .load4 .ensures),
+      (λ t s. on-next _ _ _ t _ _ _ _ (l .inv .1 t s) _ e h deep (T .turn) _ (c .before .before .before .before .before .before .before .before .before .far .ensures) _ (c .before .before .before .before .before .before .before .before .load2 .ensures) _ (c .before .before .before .before .before .before .before .near .ensures) _ (c .before .before .before .before .before .before .load3 .ensures) _ x _ i _ (c .before .step-visits .ensures .0)),
+      treading-next _ _ _ _ _ _ T _ e h (not right) _ x lower _ (turns right late (l .depth) (l .mark) _ (T .turn) i),
+    )
 
 add-t15 : tie.Need-add-t15 Inv-loop μ-loop
 add-t15 c = omega (arith, on-few _ _ _ _ _ _ _ _ (c .before .before .loop .inv .1 _ (c .before .before .before .before .before .before .pre .0 .1)) (omega (arith, c .before .before .before .before .before .before .pre .0 .2)))
