@@ -1,6 +1,6 @@
--- What the node at a place tells of the tree that stands there: a leaf, or an inner node over two trees that stand
--- at its two places. A side is true for the left (crates/shape/specs/Side.antt).
-use mathlib.Core.Path.{_≡_, sym, ap, _∙_}
+-- What the node at a seat tells of the tree that stands there: a leaf, or an inner node over two trees that stand
+-- at the two seats of its place. A side is true for the left (crates/shape/specs/Side.antt).
+use mathlib.Core.Path.{_≡_, ap, _∙_}
 use mathlib.Core.Bool.{Bool, true, false}
 use mathlib.Core.List.{List}
 use Prim.Native.Nat.{ℕ, _+_, _<_, max}
@@ -9,67 +9,66 @@ use Rattle.shape.specs.Tree.{Tree, leaf, node, height, lo, top}
 use Rattle.shape.specs.Side.{near}
 use Rattle.node.specs.declared.Node.{Node}
 use Rattle.node.specs.Layout.{Within, nodeAt}
-use Rattle.node.specs.Rep.{Rep, Stands, nodeOf}
-use Rattle.node.proofs.Reps.{heightOf, seen, within, tall}
+use Rattle.node.specs.Rep.{Stands, nodeOf}
+use Rattle.node.proofs.Reps.{heightOf, seen, within, tall, left-stands, right-stands}
+use Rattle.node.proofs.Seats.{nearSeat, near-stands}
 use Rattle.search.specs.Search.{Descendable}
 
--- the place of a node's child on the side named
+-- the seat of a node's child on the side named
 abbrev pub childOf : Bool → Node → ℕ
-childOf b n = near b (n .left) (n .right)
+childOf b n = nearSeat b (n .place)
 
--- t, with the node n at p, is an inner node
-pub record Inner (m : List ℕ) (p : ℕ) (n : Node) (t : Tree) : Type 0 where
+-- t, with the node n, is an inner node
+pub record Inner (m : List ℕ) (n : Node) (t : Tree) : Type 0 where
   pub left : Tree
   pub right : Tree
-  pub is : t ≡ node p left right
-  pub split : n .split ≡ lo right
+  pub is : t ≡ node (n .place) left right
   pub child : (b : Bool) → Stands m (childOf b n) (near b left right)
   pub lower : (b : Bool) → height (near b left right) < height t
 
-module _ {m : List ℕ} {p : ℕ} {n : Node} (e : n ≡ nodeAt m p) where
-  pub leaf-here : n .height ≡ 0 → (t : Tree) → Stands m p t → t ≡ leaf p (n .lo) (n .top)
-  leaf-here h (leaf q k g) s =
-      let z : n ≡ nodeOf (leaf q k g) = e ∙ seen s in rw (z, s .at)
-  leaf-here h (node q x y) s =
-      let z : n ≡ nodeOf (node q x y) = e ∙ seen s in
+module _ {m : List ℕ} {s : ℕ} {n : Node} (e : n ≡ nodeAt m s) where
+  pub leaf-here : n .height ≡ 0 → (t : Tree) → Stands m s t → t ≡ leaf (n .lo) (n .top)
+  leaf-here h (leaf k g) f =
+      let z : n ≡ nodeOf (leaf k g) = e ∙ seen f in rw z
+  leaf-here h (node q x y) f =
+      let z : n ≡ nodeOf (node q x y) = e ∙ seen f in
       absurd (omega (arith, ap heightOf z))
 
-  pub inner-here : (n .height ≡ 0 → ⊥) → (t : Tree) → Stands m p t → Inner m p n t
-  unfolding Rep
-  inner-here h (leaf q k g) s =
-      let z : n ≡ nodeOf (leaf q k g) = e ∙ seen s in
+  pub inner-here : (n .height ≡ 0 → ⊥) → (t : Tree) → Stands m s t → Inner m n t
+  inner-here h (leaf k g) f =
+      let z : n ≡ nodeOf (leaf k g) = e ∙ seen f in
       absurd (h (ap heightOf z))
-  inner-here h (node q x y) s =
-      let z : n ≡ nodeOf (node q x y) = e ∙ seen s in
+  inner-here h (node q x y) f =
       record {
         left = x;
         right = y;
-        is = rw (s .at);
-        split = ap (λ (a : Node). a .split) z;
-        child = λ b. go b z;
+        is = rw at;
+        child = λ b. rw at (near-stands b q (left-stands f) (right-stands f));
         lower = λ b. less b;
       }
     where
-      go : (b : Bool) → n ≡ nodeOf (node q x y) → Stands m (childOf b n) (near b x y)
-      go true z = record { rep = s .rep .2; at = sym (ap (λ (a : Node). a .left) z) }
-      go false z = record { rep = s .rep .3; at = sym (ap (λ (a : Node). a .right) z) }
+      at : n .place ≡ q
+      at = ap (λ (a : Node). a .place) (e ∙ seen f)
 
       less : (b : Bool) → height (near b x y) < max (height x) (height y) + 1
       less true = omega arith
       less false = omega arith
 
--- what a node says of the ends below it
-module _ {m : List ℕ} {p : ℕ} {n : Node} {t : Tree} (e : n ≡ nodeAt m p) (s : Stands m p t) where
+-- what a node says of the tree below it
+module _ {m : List ℕ} {s : ℕ} {n : Node} {t : Tree} (e : n ≡ nodeAt m s) (f : Stands m s t) where
   pub top-here : n .top ≡ top t
-  top-here = ap (λ (a : Node). a .top) (e ∙ seen s)
+  top-here = ap (λ (a : Node). a .top) (e ∙ seen f)
 
--- a child stands in the memory too, and is less high
-module _ (b : Bool) {m : List ℕ} {p : ℕ} {n : Node} (e : n ≡ nodeAt m p) (h : n .height ≡ 0 → ⊥) where
-  pub child-within : (t : Tree) → Stands m p t → Within m (childOf b n)
-  child-within t s = within (inner-here e h t s .child b)
+  pub lo-here : n .lo ≡ lo t
+  lo-here = ap (λ (a : Node). a .lo) (e ∙ seen f)
 
-  pub child-lower : (t : Tree) → Stands m p t → nodeAt m (childOf b n) .height < nodeAt m p .height
-  child-lower t s = let i = inner-here e h t s in omega (arith, tall (i .child b), i .lower b, tall s)
+-- a child stands in the memory too, at the seat x, and is less high
+module _ (b : Bool) {m : List ℕ} {s : ℕ} {n : Node} (e : n ≡ nodeAt m s) (h : n .height ≡ 0 → ⊥) (x : ℕ) (ex : x ≡ childOf b n) where
+  pub child-within : (t : Tree) → Stands m s t → Within m x
+  child-within t f = rw ex (within (inner-here e h t f .child b))
 
-  pub child-searchable : Descendable m p → Descendable m (childOf b n)
-  child-searchable s = let i = inner-here e h (s .0) (s .1) in (_, i .child b, omega (arith, i .lower b))
+  pub child-lower : (t : Tree) → Stands m s t → nodeAt m x .height < nodeAt m s .height
+  child-lower t f = let i = inner-here e h t f in omega (arith, ap (λ (a : ℕ). nodeAt m a .height) ex, tall (i .child b), i .lower b, tall f)
+
+  pub child-searchable : Descendable m s → Descendable m x
+  child-searchable f = let i = inner-here e h (f .0) (f .1) in (near b (i .left) (i .right), rw ex (i .child b), omega (arith, i .lower b))

@@ -1,72 +1,79 @@
 -- What the search's contracts say, in the words of the tree's definitions (crates/shape/specs/Visits.antt).
--- Each speaks of whatever tree stands at the place; none says how the code goes.
+-- Each speaks of whatever tree stands at the seat; none says how the code goes.
 use mathlib.Core.Path.{_≡_, refl, sym, ap}
-use mathlib.Core.Bool.{Bool, true, false}
+use mathlib.Core.Bool.{true, false}
 use mathlib.Core.List.{List}
-use Prim.Native.Nat.{ℕ, _+_, _≤_, _<_}
+use Prim.Native.Nat.{ℕ, _+_, _-_, _%_, _≤_, _<_}
 use lib.ListN.{length, getD}
 use Rattle.numbers.specs.Case.{pick}
 use Rattle.shape.specs.Tree.{Tree, leaf, height}
 use Rattle.shape.specs.Visits.{Out, none, some, Result, path, passed, reached, Deepest, unmarked, marked, deepest, descended, bottom}
-use Rattle.node.specs.Layout.{highest, nodeAt}
+use Rattle.node.specs.Layout.{highest, Within, nodeAt}
 use Rattle.node.specs.Rep.{Stands}
-use Rattle.node.specs.Paths.{longestWay, Child, Down, Reaches}
+use Rattle.node.specs.Paths.{longestWay, Down, Reaches}
 use Rattle.search.specs.declared.Descent.{Descent}
 use Rattle.search.specs.declared.Way.{Way}
 use Rattle.search.specs.declared.Found.{Found}
 
--- some tree stands at p, and is not higher
+-- some tree stands at s, and is not higher
 abbrev pub Descendable : List ℕ → ℕ → Type 0
-Descendable m p = (t : Tree) × Stands m p t × (height t ≤ highest)
+Descendable m s = (t : Tree) × Stands m s t × (height t ≤ highest)
 
 -- and its ways down fit the list
 abbrev pub Searchable : List ℕ → ℕ → (way : List ℕ) → Type 0
-Searchable m p ws = (t : Tree) × Stands m p t × (height t < longestWay) × (longestWay ≤ length ws)
+Searchable m s ws = (t : Tree) × Stands m s t × (height t < longestWay) × (longestWay ≤ length ws)
 
 -- d is where C's way down from t ends, with its visits
 pub record Descended (m : List ℕ) (f : ℕ) (t : Tree) (d : Descent) : Type 0 where
-  pub ends : bottom f t ≡ some (d .place) (nodeAt m (d .place) .lo) (nodeAt m (d .place) .top)
+  pub inside : Within m (d .seat)
+  pub ends : bottom f t ≡ some (nodeAt m (d .seat) .lo) (nodeAt m (d .seat) .top)
   pub counts : d .visits ≡ length (descended f t)
 
--- the mark of a way is that node, or no node
-abbrev pub Marks : List ℕ → (marked : Bool) → (mark : ℕ) → Deepest → Type 0
-Marks m b p unmarked = (b ≡ false) × (p ≡ 0)
-Marks m b p (marked x) = (b ≡ true) × Stands m p x
+-- x stands on the left of the node noted j steps down
+pub record Beside (m ws : List ℕ) (j : ℕ) (x : Tree) : Type 0 where
+  pub deep : 1 ≤ j
+  pub right : getD ws j 0 % 2 ≡ 1
+  pub stands : Stands m (getD ws j 0 - 1) x
 
--- w has the leaf reached, the deepest marked node, and the visits A + B
-pub record Walked (m : List ℕ) (r f : ℕ) (t : Tree) (w : Way) : Type 0 where
-  pub ends : reached r t ≡ leaf (w .leaf) (nodeAt m (w .leaf) .lo) (nodeAt m (w .leaf) .top)
-  pub marks : Marks m (w .marked) (w .mark) (deepest f (passed r t))
+-- the mark of a way is beside that node of it, or there is none
+abbrev pub Marks : (m ws : List ℕ) → (mark : ℕ) → Deepest → Type 0
+Marks m ws j unmarked = j ≡ 0
+Marks m ws j (marked x) = Beside m ws j x
+
+-- w has the leaf reached, which is the last of the way ws, the deepest marked node, and the visits A + B
+pub record Walked (m : List ℕ) (r f : ℕ) (t : Tree) (ws : List ℕ) (w : Way) : Type 0 where
+  pub stands : Stands m (getD ws (w .depth) 0) (reached r t)
+  pub ends : reached r t ≡ leaf (nodeAt m (getD ws (w .depth) 0) .lo) (nodeAt m (getD ws (w .depth) 0) .top)
+  pub marks : Marks m ws (w .mark) (deepest f (passed r t))
   pub counts : w .visits ≡ length (path r t) + length (passed r t)
 
--- the way walked is noted, and the mark is a child of a place of it
+-- the way walked is noted, and the mark is beside a node of it
 pub record Trodden (m : List ℕ) (root : ℕ) (ws : List ℕ) (w : Way) : Type 0 where
   pub long : longestWay ≤ length ws
   pub short : w .depth < longestWay
   pub down : Down m root (w .depth) ws
-  pub here : getD ws (w .depth) 0 ≡ w .leaf
-  pub turn : w .marked ≡ true → (w .turn < w .depth) × Child m (getD ws (w .turn) 0) (w .mark)
+  pub turn : w .mark ≤ w .depth
 
--- the answer of a search as the code gives it, d places below the root being noted
+-- the answer of a search as the code gives it, d seats below the root being noted
 abbrev pub foundAt : (d visits : ℕ) → Out → Found
-foundAt d n none = record { found = false; place = 0; key = 0; end = 0; visits = n; noted = d }
-foundAt d n (some p k e) = record { found = true; place = p; key = k; end = e; visits = n; noted = d }
+foundAt d n none = record { found = false; key = 0; end = 0; visits = n; noted = d }
+foundAt d n (some k e) = record { found = true; key = k; end = e; visits = n; noted = d }
 
 abbrev pub foundOf : (d : ℕ) → Result → Found
 foundOf d z = foundAt d (z .visits) (z .out)
 
--- what is found is below the place noted last
+-- what is found is below the seat noted last
 abbrev pub Notes : List ℕ → (root : ℕ) → List ℕ → Found → Type 0
-Notes m root ws x = x .found ≡ true → Reaches m root (x .noted) ws (x .place) (x .key) (x .end)
+Notes m root ws x = x .found ≡ true → Reaches m root (x .noted) ws (x .key) (x .end)
 
 -- and back
 abbrev pub resultOf : Found → Result
-resultOf x = record { out = pick (x .found) (some (x .place) (x .key) (x .end)) none; visits = x .visits }
+resultOf x = record { out = pick (x .found) (some (x .key) (x .end)) none; visits = x .visits }
 
 -- ---- what an answer tells of the search
 result-at : (d n : ℕ) (o : Out) → resultOf (foundAt d n o) ≡ record { out = o; visits = n }
 result-at d n none = refl
-result-at d n (some p k e) = refl
+result-at d n (some k e) = refl
 
 module _ (x : Found) (d : ℕ) (z : Result) (q : x ≡ foundOf d z) where
   pub found-result : resultOf x ≡ z
@@ -75,7 +82,7 @@ module _ (x : Found) (d : ℕ) (z : Result) (q : x ≡ foundOf d z) where
   pub found-visits : x .visits ≡ z .visits
   found-visits = ap (λ (y : Result). y .visits) found-result
 
-  pub found-some : x .found ≡ true → z .out ≡ some (x .place) (x .key) (x .end)
+  pub found-some : x .found ≡ true → z .out ≡ some (x .key) (x .end)
   found-some h = rw h at (sym (ap (λ (y : Result). y .out) found-result))
 
   pub found-none : x .found ≡ false → z .out ≡ none

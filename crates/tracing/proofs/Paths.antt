@@ -1,6 +1,6 @@
 -- In an ordered tree every way down to a leaf is the way of that leaf's key: who has noted it need not be led by the key. The same for a way
 -- down to any tree that has a leaf of the key.
-use mathlib.Core.Path.{_≡_, refl, sym, ap, _∙_}
+use mathlib.Core.Path.{_≡_, refl, ap}
 use mathlib.Core.Logic.{_⊎_, inl, inr}
 use mathlib.Core.Bool.{Bool, true, false}
 use mathlib.Core.List.{List}
@@ -15,7 +15,7 @@ use Rattle.shape.specs.TreeLaws.{lo-in, in-ord}
 use Rattle.node.specs.declared.Node.{Node}
 use Rattle.node.specs.Layout.{nodeAt}
 use Rattle.node.specs.Rep.{Stands}
-use Rattle.node.specs.Paths.{longestWay, Child, Down}
+use Rattle.node.specs.Paths.{longestWay, Down}
 use Rattle.node.proofs.Reps.{seen, tall, one-tree}
 use Rattle.node.proofs.Seats.{nearSeat, farSeat, children}
 use Rattle.tracing.specs.Alone.{Sole}

@@ -1,6 +1,5 @@
 -- The steps of noting a way down: one seat more, as long as the seat reached is no leaf's.
 use mathlib.Core.Path.{_≡_, refl, sym, ap, _∙_}
-use mathlib.Core.Logic.{inl, inr}
 use mathlib.Core.Bool.{true}
 use mathlib.Core.List.{List, _∷_}
 use Prim.Native.Nat.{ℕ, zero, suc, _+_, _*_, _<_, _≤_}

@@ -5,11 +5,9 @@ use mathlib.Core.List.{List}
 use Prim.Native.Nat.{ℕ, suc, _+_, _*_, _≤_, _<_}
 use lib.Dec.{ltb}
 use lib.ListN.{length, getD}
-use Rattle.shape.specs.Tree.{Tree}
 use Rattle.shape.specs.Side.{near}
 use Rattle.node.specs.Layout.{nodeAt}
-use Rattle.node.specs.Rep.{Stands}
-use Rattle.node.specs.Paths.{longestWay, Down}
+use Rattle.node.specs.Paths.{longestWay}
 use Rattle.tracing.specs.Alone.{Alone}
 
 -- from the inner node at w the key leads to the seat x: to the left exactly if it is below the least key on the right
