@@ -1,10 +1,10 @@
--- The header of a link in lent memory: 26 words (docs/ARCHITECTURE.md), and the bytes that a room needs.
+-- The header of a link in lent memory: 28 words (docs/ARCHITECTURE.md), and the bytes that a room needs.
 use mathlib.Core.Path.{_≡_}
 use mathlib.Core.List.{List, [], _∷_}
 use Prim.Native.Nat.{ℕ, zero, suc, _+_, _*_, _<_}
 use lib.ListN.{length, getD}
 use Rattle.numbers.specs.Words.{word}
-use Rattle.shape.specs.Tree.{place, size}
+use Rattle.shape.specs.Tree.{size}
 use Rattle.node.specs.Layout.{headerWords}
 use Rattle.state.specs.State.{State, first, places}
 
@@ -14,7 +14,7 @@ padded zero xs = []
 padded (suc n) [] = 0 ∷ padded n []
 padded (suc n) (x ∷ xs) = x ∷ padded n xs
 
--- the header's words: sixteen delays, the unused ones 0, and two words that are 0
+-- the header's words; word 5 is 0, and after sixteen delays, the unused ones 0, four words are 0
 abbrev pub header : State → List ℕ
 header s =
     s .settings .room
@@ -22,15 +22,15 @@ header s =
     ∷ length (s .settings .delays)
     ∷ s .settings .leap
     ∷ s .floor
-    ∷ place (s .tree)
+    ∷ 0
     ∷ size (s .tree)
     ∷ first (s .spares)
-    ∷ padded 18 (s .settings .delays)
+    ∷ padded 20 (s .settings .delays)
 
 -- the memory begins with these words
 abbrev pub Heads : List ℕ → List ℕ → Type 0
 Heads m h = (j : ℕ) → j < headerWords → word m j ≡ getD h j 0
 
--- "The exact need is a formula in the room": 80 * room + 248 bytes
+-- "The exact need is a formula in the room": 64 * room + 256 bytes, two seats for each place
 abbrev pub need : (room : ℕ) → ℕ
-need room = 208 + 40 * places room
+need room = 192 + 64 * places room

@@ -1,34 +1,43 @@
 -- Which state a memory holds. Every byte of the need is fixed by the state: no word of it is left open.
 use mathlib.Core.Path.{_≡_}
 use mathlib.Core.List.{List, [], _∷_}
-use Prim.Native.Nat.{ℕ, _≤_}
+use Prim.Native.Nat.{ℕ, _+_, _*_, _/_, _≤_}
 use lib.ListN.{length, getD}
 use Rattle.node.specs.declared.Node.{Node}
-use Rattle.node.specs.Layout.{nodeAt}
-use Rattle.node.specs.Rep.{Rep}
+use Rattle.numbers.specs.Words.{word, store}
+use Rattle.shape.specs.Tree.{same}
+use Rattle.node.specs.Layout.{rootSeat, nodeAt, leafNode, Kept}
+use Rattle.node.specs.Rep.{Stands}
 use Rattle.state.specs.State.{State, first, places}
 use Rattle.state.specs.Sound.{Sound}
 use Rattle.memory.specs.Header.{header, Heads, need}
 
--- a spare node: marked by a height that no tree has, with the number of spare ones after it and the next of them
+-- a spare place: its left node is marked by a height that no tree has, with the number of spare ones after it and the next of them;
+-- its right one is all 0
 abbrev pub spareMark : ℕ
 spareMark = 2147483648
 
 abbrev pub spareNode : (after next : ℕ) → Node
-spareNode k p = record { height = spareMark; lo = 0; split = 0; top = 0; low = 0; left = k; right = p }
+spareNode k p = record { height = spareMark; lo = 0; top = 0; low = k; place = p }
 
--- the spare nodes, one after the other
+-- the spare places, one after the other
 unfoldable pub Spares : List ℕ → List ℕ → Type 0
 Spares m [] = Unit {0}
-Spares m (p ∷ ps) = (nodeAt m p ≡ spareNode (length ps) (first ps)) × Spares m ps
+Spares m (p ∷ ps) = (nodeAt m (2 * p) ≡ spareNode (length ps) (first ps)) × (nodeAt m (2 * p + 1) ≡ leafNode 0 0) × Spares m ps
+
+-- m′ is m with the place p in front of the k spare ones
+pub record Gives (p k : ℕ) (m m′ : List ℕ) : Type 0 where
+  pub left : nodeAt m′ (2 * p) ≡ spareNode k (word m 7)
+  pub right : nodeAt m′ (2 * p + 1) ≡ leafNode 0 0
+  pub kept : Kept (λ z. same (z / 2) p) (store m 7 p) m′
 
 -- the memory holds the state
 pub record Holds (m : List ℕ) (s : State) : Type 0 where
-  pub small : places (s .settings .room) ≤ 65536
+  pub small : places (s .settings .room) ≤ 32768
   pub lines : length (s .settings .delays) ≤ 16
   pub long : need (s .settings .room) ≤ length m
   pub heads : Heads m (header s)
-  pub rep : Rep m (s .tree)
+  pub stands : Stands m rootSeat (s .tree)
   pub spare : Spares m (s .spares)
 
 -- a whole link

@@ -4,20 +4,20 @@ use mathlib.Core.Path.{_≡_}
 use mathlib.Core.List.{List}
 use Prim.Native.Nat.{ℕ, _+_, _*_, _≤_}
 use lib.ListN.{length}
-use Rattle.shape.specs.Tree.{Tree, uses}
-use Rattle.node.specs.Layout.{headerWords}
-use Rattle.node.specs.Rep.{Rep}
+use Rattle.shape.specs.Tree.{Tree, same, uses}
+use Rattle.node.specs.Layout.{headerWords, rootSeat}
+use Rattle.node.specs.Rep.{Stands}
 use Rattle.state.specs.Sound.{among, below}
 use Rattle.memory.specs.Header.{Heads}
 use Rattle.memory.specs.Holds.{Spares, Past}
 
 pub record Part (m0 m : List ℕ) (n : ℕ) (h : List ℕ) (t : Tree) (ps : List ℕ) : Type 0 where
-  pub small : n ≤ 65536
-  pub long : 208 + 40 * n ≤ length m
+  pub small : n ≤ 32768
+  pub long : 192 + 64 * n ≤ length m
   pub wide : length h ≡ headerWords
   pub heads : Heads m h
-  pub rep : Rep m t
+  pub stands : Stands m rootSeat t
   pub spare : Spares m ps
-  -- no place is used twice, and none that the link does not have
-  pub once : (z : ℕ) → uses z t + among z ps ≤ below z n
-  pub past : Past (208 + 40 * n) m0 m
+  -- no place is used twice, none that the link does not have, and none is the root's
+  pub once : (z : ℕ) → same z 0 + uses z t + among z ps ≤ below z n
+  pub past : Past (192 + 64 * n) m0 m

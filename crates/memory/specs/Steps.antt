@@ -4,10 +4,10 @@ use mathlib.Core.Path.{_≡_}
 use Prim.Native.Nat.{ℕ, _≤_}
 use lib.ListN.{length}
 use Rattle.shape.specs.Tree.{Balanced, Ord, size}
-use Rattle.numbers.specs.Words.{word}
+use Rattle.shape.specs.Arrange.{above}
+use Rattle.node.specs.Layout.{rootSeat}
 use Rattle.node.specs.Paths.{longestWay, Reaches}
-use Rattle.rising.specs.declared.Cut.{Cut}
-use Rattle.rising.specs.Changes.{Shrunk}
+use Rattle.rising.specs.Changes.{cutting, Changed}
 use Rattle.state.specs.State.{State, shorten, add, drop, with-floor}
 use Rattle.state.specs.Sound.{mostKey}
 use Rattle.state.specs.Places.{Placed}
@@ -25,8 +25,7 @@ Some m = (s : State) × Link m s
 -- a way is noted from the root, down to a tree that has a leaf of the key and the end
 pub record Pointed (m ws : List ℕ) (d k e : ℕ) : Type 0 where
   pub long : longestWay ≤ length ws
-  pub place : ℕ
-  pub reaches : Reaches m (word m 5) d ws place k e
+  pub reaches : Reaches m rootSeat d ws k e
 
 -- of a link with rising keys
 pub record Noting (m : List ℕ) (s : State) (ws : List ℕ) (d k : ℕ) : Type 0 where
@@ -54,17 +53,18 @@ Adds k e m m′ = (s : State) → Link m s → After m m′ (add s k e)
 abbrev pub Drops : (k : ℕ) → (m m′ : List ℕ) → Type 0
 Drops k m m′ = (s : State) → Link m s → After m m′ (drop s k)
 
--- the memory after a void of the key was taken out of the tree of s, which m0 holds
-pub record Removal (c : Cut) (m0 : List ℕ) (s : State) (k : ℕ) (m : List ℕ) : Type 0 where
+-- the memory after a void of the key was taken out of the tree of s, which m0 holds; q is the place that came free
+pub record Removal (q : ℕ) (m0 : List ℕ) (s : State) (k : ℕ) (m : List ℕ) : Type 0 where
   pub link : Link m0 s
   pub two : 2 ≤ size (s .tree)
-  pub cut : Shrunk c k (s .tree) m0 m
+  pub free : q ≡ above k (s .tree)
+  pub cut : Changed (cutting k) rootSeat (s .tree) m0 m
 
-abbrev pub CutOut : Cut → List ℕ → Type 0
-CutOut c m = (m0 : List ℕ) × (s : State) × (k : ℕ) × Removal c m0 s k m
+abbrev pub CutOut : (q : ℕ) → List ℕ → Type 0
+CutOut q m = (m0 : List ℕ) × (s : State) × (k : ℕ) × Removal q m0 s k m
 
-abbrev pub GivesBack : Cut → (m m′ : List ℕ) → Type 0
-GivesBack c m m′ = (m0 : List ℕ) (s : State) (k : ℕ) → Removal c m0 s k m → After m0 m′ (drop s k)
+abbrev pub GivesBack : (q : ℕ) → (m m′ : List ℕ) → Type 0
+GivesBack q m m′ = (m0 : List ℕ) (s : State) (k : ℕ) → Removal q m0 s k m → After m0 m′ (drop s k)
 
 abbrev pub Refloors : (moment : ℕ) → (m m′ : List ℕ) → Type 0
 Refloors moment m m′ = (s : State) → Link m s → After m m′ (with-floor s moment)

@@ -1,16 +1,17 @@
 // A link's state in lent memory: header, tree, spare places; the three steps that change it.
 // Above this crate nobody speaks of places.
 ghost use mathlib.Core.Path.{_≡_};
-ghost use Prim.Native.Nat.{_≤_, _<_};
+ghost use Prim.Native.Nat.{_+_, _*_, _≤_, _<_};
 ghost use Rattle.numbers.specs.Words.{word, store};
 ghost use Rattle.rule.specs.Settings.{mostRoom};
-ghost use Rattle.node.specs.Layout.{Within, nodeAt, Saved};
+ghost use Rattle.node.specs.Layout.{Within, nodeAt};
 ghost use Rattle.memory.specs.Header.{need};
-ghost use Rattle.memory.specs.Holds.{spareNode};
+ghost use Rattle.memory.specs.Holds.{Gives};
 ghost use Rattle.memory.specs.Steps.{Some, Noted, Roomy, Several, CutOut, GivesBack, Shortens, Adds, Drops, Refloors};
+use node::far;
+use node::near;
 use numbers::words::get;
 use numbers::words::put;
-use tree::Cut;
 
 // The words of the header (specs/Header.antt).
 pub const ROOM: usize = 0;
@@ -22,8 +23,6 @@ pub const LINES: usize = 2;
 pub const LEAP: usize = 3;
 
 pub const FLOOR: usize = 4;
-
-pub const ROOT: usize = 5;
 
 pub const KEPT: usize = 6;
 
@@ -38,33 +37,32 @@ pub const LONGEST_WAY: usize = tracing::LONGEST_WAY;
 pub const SPARE_MARK: u64 = 2147483648;
 
 // Takes the first spare place off the list.
-fn take_spare(mem: &mut [u8]) -> usize
-    requires { ⌜ Within (now mem) (word (now mem) 7) ⌝ }
-    ensures { λ p. ⌜ (p ≡ word (now (mem .entry)) 7) × (now (mem .exit) ≡ store (now (mem .entry)) 7 (nodeAt (now (mem .entry)) p .right)) ⌝ }
+fn take_spare(mem: &mut [u8]) -> u64
+    requires { ⌜ Within (now mem) (2 * word (now mem) 7) ⌝ }
+    ensures { λ p. ⌜ (p ≡ word (now (mem .entry)) 7) × (now (mem .exit) ≡ store (now (mem .entry)) 7 (nodeAt (now (mem .entry)) (2 * p) .place)) ⌝ }
 {
-    let p = get(mem, SPARE) as usize;
-    let n = node::load(mem, p);
-    put(mem, SPARE, n.right);
+    let p = get(mem, SPARE);
+    let n = node::load(mem, near(true, p));
+    put(mem, SPARE, n.place);
     p
 }
 
 // Puts a place in front of the k spare ones.
-pub fn give_spare(mem: &mut [u8], p: usize, k: u64)
-    requires { ⌜ (Within (now mem) p) × (k < 65536) × (word (now mem) 7 < 65536) ⌝ }
-    ensures { λ _. ⌜ Saved p (spareNode k (word (now (mem .entry)) 7)) (store (now (mem .entry)) 7 p) (now (mem .exit)) ⌝ }
+pub fn give_spare(mem: &mut [u8], p: u64, k: u64)
+    requires { ⌜ (Within (now mem) (2 * p)) × (Within (now mem) (2 * p + 1)) × (word (now mem) 7 < 65536) ⌝ }
+    ensures { λ _. ⌜ Gives p k (now (mem .entry)) (now (mem .exit)) ⌝ }
 {
     let next = get(mem, SPARE);
-    put(mem, SPARE, p as u64);
+    put(mem, SPARE, p);
     let n = node::Node {
         height: SPARE_MARK,
         lo: 0,
-        split: 0,
         top: 0,
-        low: 0,
-        left: k,
-        right: next,
+        low: k,
+        place: next,
     };
-    node::save(mem, p, n);
+    node::save(mem, near(true, p), n);
+    node::save(mem, far(true, p), node::leaf(0, 0));
 }
 
 // Another end for the void of the key, to which the way noted leads, at least in part.
@@ -80,29 +78,20 @@ pub fn add(mem: &mut [u8], key: u64, end: u64)
     requires { ⌜ Roomy (now mem) ⌝ }
     ensures { λ _. ⌜ Adds key end (now (mem .entry)) (now (mem .exit)) ⌝ }
 {
-    let p = take_spare(mem);
     let q = take_spare(mem);
-    let root = get(mem, ROOT) as usize;
-    let top = tree::insert(mem, root, key, end, p, q);
-    put(mem, ROOT, top as u64);
+    tree::insert(mem, node::ROOT, key, end, q);
     let kept = get(mem, KEPT);
     put(mem, KEPT, kept + 1);
 }
 
-// After a removal: its two places are spare again, the root is where it says, and one void less is kept.
-fn give_back(mem: &mut [u8], cut: Cut)
-    requires { ⌜ CutOut cut (now mem) ⌝ }
-    ensures { λ _. ⌜ GivesBack cut (now (mem .entry)) (now (mem .exit)) ⌝ }
+// After a removal: its place is spare again, and one void less is kept.
+fn give_back(mem: &mut [u8], q: u64)
+    requires { ⌜ CutOut q (now mem) ⌝ }
+    ensures { λ _. ⌜ GivesBack q (now (mem .entry)) (now (mem .exit)) ⌝ }
 {
     let kept = get(mem, KEPT);
     let room = get(mem, ROOM);
-    let spare = 2 * (room + 1 - kept);
-    let leaf = cut.leaf;
-    let above = cut.node;
-    let root = cut.root;
-    give_spare(mem, above, spare);
-    give_spare(mem, leaf, spare + 1);
-    put(mem, ROOT, root as u64);
+    give_spare(mem, q, room + 1 - kept);
     put(mem, KEPT, kept - 1);
 }
 
@@ -111,9 +100,8 @@ pub fn drop(mem: &mut [u8], key: u64)
     requires { ⌜ Several (now mem) ⌝ }
     ensures { λ _. ⌜ Drops key (now (mem .entry)) (now (mem .exit)) ⌝ }
 {
-    let root = get(mem, ROOT) as usize;
-    let cut = tree::remove(mem, root, key);
-    give_back(mem, cut);
+    let q = tree::remove(mem, node::ROOT, key);
+    give_back(mem, q);
 }
 
 // Another floor.
@@ -129,6 +117,6 @@ pub fn need(room: u64) -> usize
     requires { ⌜ room ≤ mostRoom ⌝ }
     ensures { λ n. ⌜ n ≡ need room ⌝ }
 {
-    let places = (2 * room + 1) as usize;
-    node::HEADER_BYTES + node::NODE_BYTES * places
+    let seats = (2 * room + 1) as usize;
+    node::HEADER_BYTES + node::NODE_BYTES * seats
 }
