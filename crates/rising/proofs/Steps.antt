@@ -33,17 +33,18 @@ two-on true f g i o l = record { first = f; second = g; room = i; once = o; low 
 two-on false f g i o l = record { first = g; second = f; room = i; once = o; low = l }
 
 module _ (c : Change) (m0 : List ℕ) (w x : ℕ) (L : Leads m0 (keyOf c) w x) where
-  abbrev n : Node
+  abbrev pub n : Node
   n = nodeAt m0 w
 
-  abbrev s : Bool
+  -- the side that the key leads to, and the other child's seat
+  abbrev pub s : Bool
   s = ltb (keyOf c) (nodeAt m0 (2 * n .place + 1) .lo)
 
-  abbrev y : ℕ
+  abbrev pub y : ℕ
   y = farSeat s (n .place)
 
   module _ (v : ℕ) (l r : Tree) (B : Begun c m0 w (node v l r)) where
-    kid : Children m0 w n refl s x y v l r
+    pub kid : Children m0 w n refl s x y v l r
     kid = children m0 w n refl s x y v l r (L .to) refl (B .stands)
 
     x-is : x ≡ nearSeat s v
@@ -58,7 +59,7 @@ module _ (c : Change) (m0 : List ℕ) (w x : ℕ) (L : Leads m0 (keyOf c) w x) w
     y-half : y / 2 ≡ v
     y-half = ap (λ (z : ℕ). z / 2) y-is ∙ far-half s v
 
-    leads : s ≡ ltb (keyOf c) (lo r)
+    pub leads : s ≡ ltb (keyOf c) (lo r)
     leads = ap (ltb (keyOf c)) (kid .split)
 
     pub begun-near : Begun c m0 x (near s l r)

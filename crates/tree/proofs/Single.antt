@@ -1,52 +1,30 @@
 -- The contracts leave one answer and one content of the memory: any two outcomes allowed are equal.
 -- `Bytes m` is what lent memory always is.
-use mathlib.Core.Path.{_≡_, refl, sym, _∙_}
+use mathlib.Core.Path.{_≡_, sym, _∙_}
+use mathlib.Core.Logic.{_⊎_, inl, inr}
 use mathlib.Core.List.{List}
-use Prim.Native.Nat.{ℕ}
+use Prim.Native.Nat.{ℕ, _+_, _/_, _≤_}
+use native.Mathlib.Decide.{ℕ-discrete}
 use native.Mathlib.Omega.{arith}
-use Rattle.shape.specs.Tree.{node}
-use Rattle.shape.specs.Arrange.{balance, insert, remove, setEnd}
-use Rattle.shape.specs.ChangeLaws.{leaf-uses}
-use Rattle.shape.specs.PlaceLaws.{inners-uses}
+use Rattle.shape.specs.Tree.{Tree, height, same, uses}
+use Rattle.shape.specs.PlaceLaws.{same-other}
+use Rattle.shape.specs.ChangeLaws.{weight-insert, weight-set}
 use Rattle.node.proofs.Same.{Bytes, determined}
-use Rattle.turning.specs.Turns.{Both, Balances}
-use Rattle.tracing.specs.Alone.{Alone}
-use Rattle.rising.specs.declared.Cut.{Cut}
-use Rattle.rising.specs.Changes.{Ready, Sets, Inserts, Removes}
+use Rattle.rising.specs.Changes.{adding, ending, Begun, Becomes}
 
-whole : (c : Cut) → c ≡ record { root = c .root; leaf = c .leaf; node = c .node }
-whole c = refl
-
-same-cut : (a b : Cut) → a .root ≡ b .root → a .leaf ≡ b .leaf → a .node ≡ b .node → a ≡ b
-same-cut a b i j k = whole a ∙ (rw (i, j, k))
+-- a seat that may have been written is t, or at a place of the tree after
+written : (t z u v : ℕ) → u ≤ v → 1 ≤ same z t + u → (z ≡ t) ⊎ (1 ≤ v)
+written t z u v h i = elim (ℕ-discrete z t) [ yes e ↦ inl e | no n ↦ inr (omega (arith, same-other z t n)) ]
 
 module _ (m m′ m″ : List ℕ) (x : Bytes m′) (y : Bytes m″) where
-  pub balance-single : (w l r t t′ : ℕ) → Both m w l r → Balances w l r t m m′ → Balances w l r t′ m m″ → (t ≡ t′) × (m′ ≡ m″)
-  balance-single w l r t t′ g one two =
-      let f = one (g .0) (g .1) (g .2) in
-      let h = two (g .0) (g .1) (g .2) in (
-        sym (f .stands .at) ∙ h .stands .at,
-        determined _ (balance w (g .0) (g .1)) m m′ m″ (λ z u. omega (arith, u, f .many z, inners-uses z (node w (g .0) (g .1)))) x y (f .stands .rep) (f .kept) (h .stands .rep) (h .kept),
-      )
+  pub set-single : (t k e : ℕ) (tr : Tree) → Begun (ending k e) m t tr → Becomes (ending k e) t m m′ → Becomes (ending k e) t m m″ → m′ ≡ m″
+  set-single t k e tr B one two =
+      let f = one tr B in
+      let h = two tr B in
+      determined _ _ t m m′ m″ (λ z u. written t z (uses (z / 2) tr) _ (omega (arith, weight-set 0 (same (z / 2)) k e tr)) (omega (arith, u))) x y (f .stands) (f .kept) (h .stands) (h .kept)
 
-  pub set-single : (t k e : ℕ) → Alone m t → Sets t k e m m′ → Sets t k e m m″ → m′ ≡ m″
-  set-single t k e g one two =
-      let f = one (g .0) (g .1) in
-      let h = two (g .0) (g .1) in
-      determined _ (setEnd k e (g .0)) m m′ m″ (λ z u. omega (arith, u, f .many z, leaf-uses z k (g .0))) x y (f .stands .rep) (f .kept) (h .stands .rep) (h .kept)
-
-  pub insert-single : (t k e p q r r′ : ℕ) → Ready m t p q → Inserts t k e p q r m m′ → Inserts t k e p q r′ m m″ → (r ≡ r′) × (m′ ≡ m″)
-  insert-single t k e p q r r′ g one two =
-      let f = one (g .0) (g .1) in
-      let h = two (g .0) (g .1) in (
-        sym (f .stands .at) ∙ h .stands .at,
-        determined _ (insert k e p q (g .0)) m m′ m″ (λ z u. omega (arith, u, f .many z, inners-uses z (g .0))) x y (f .stands .rep) (f .kept) (h .stands .rep) (h .kept),
-      )
-
-  pub remove-single : (t k : ℕ) (c c′ : Cut) → Alone m t → Removes t k c m m′ → Removes t k c′ m m″ → (c ≡ c′) × (m′ ≡ m″)
-  remove-single t k c c′ g one two =
-      let f = one (g .0) (g .1) in
-      let h = two (g .0) (g .1) in (
-        same-cut c c′ (sym (f .stands .at) ∙ h .stands .at) (f .leaf ∙ sym (h .leaf)) (f .node ∙ sym (h .node)),
-        determined _ (remove k (g .0)) m m′ m″ (λ z u. omega (arith, u, inners-uses z (remove k (g .0)))) x y (f .stands .rep) (f .kept) (h .stands .rep) (h .kept),
-      )
+  pub insert-single : (t k e q : ℕ) (tr : Tree) → Begun (adding k e q) m t tr → Becomes (adding k e q) t m m′ → Becomes (adding k e q) t m m″ → m′ ≡ m″
+  insert-single t k e q tr B one two =
+      let f = one tr B in
+      let h = two tr B in
+      determined _ _ t m m′ m″ (λ z u. written t z (uses (z / 2) tr + same (z / 2) q) _ (omega (arith, weight-insert (λ j v. 0) (same (z / 2)) k e q tr)) (omega (arith, u))) x y (f .stands) (f .kept) (h .stands) (h .kept)

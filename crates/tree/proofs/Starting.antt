@@ -1,67 +1,183 @@
--- How each change begins, at the end of the way: a leaf with another end, a leaf beside a leaf, a leaf gone with the node above it.
+-- How each change begins, at the end of the way: a leaf with another end, a leaf beside a leaf, a leaf gone and its sibling in the place of
+-- the node above them.
 use mathlib.Core.Path.{_≡_, refl, sym, ap, _∙_}
-use mathlib.Core.Bool.{Bool}
+use mathlib.Core.Logic.{_≢_}
+use mathlib.Core.Bool.{Bool, true, false}
 use mathlib.Core.List.{List}
-use Prim.Native.Nat.{ℕ, zero, suc, _+_, _-_, _≤_, _<_}
+use Prim.Native.Nat.{ℕ, zero, suc, _+_, _*_, _-_, _/_, _%_, _≤_, _<_}
 use native.Mathlib.Omega.{arith}
-use lib.Dec.{ltb}
+use borrow.Author.Tests.{eq-eqb, ne-eqb}
+use lib.Dec.{ltb, eqb}
 use lib.ListN.{getD}
-use Rattle.shape.specs.Side.{near, far}
+use Rattle.shape.specs.Tree.{Tree, leaf, node, height, same, uses}
+use Rattle.shape.specs.Side.{over, near, far}
+use Rattle.shape.specs.Arrange.{remove, above, setEnd}
+use Rattle.shape.specs.ChangeLaws.{insert-leaf, remove-side, above-side, less-leaf, above-leaf, above-node}
+use Rattle.shape.specs.PlaceLaws.{same-self, same-none}
 use Rattle.node.specs.declared.Node.{Node}
-use Rattle.node.specs.Layout.{Within, nodeAt, leafNode, Saved, Mendable}
-use Rattle.node.proofs.Reps.{tall}
-use Rattle.turning.specs.Turns.{OverOn}
+use Rattle.node.specs.Layout.{Within, nodeAt, leafNode, Saved, Over, Copied, Mendable}
+use Rattle.node.specs.Rep.{Stands}
 use Rattle.node.specs.Paths.{longestWay}
-use Rattle.tracing.specs.Alone.{Alone}
+use Rattle.node.proofs.Frames.{kept-then, kept-less, within-kept}
+use Rattle.node.proofs.Reps.{tall, within, leaf-stands}
+use Rattle.node.proofs.Seats.{nearSeat, farSeat, near-half, far-half, near-far, reads, reads-height, over-stands, stands-past, copied-past, Children}
+use Rattle.turning.proofs.Sides.{seat-free, mendable-on, uses-sides}
+use Rattle.tracing.specs.Alone.{Sole, Alone}
 use Rattle.tracing.specs.Ways.{Leads, Way}
-use Rattle.rising.specs.Changes.{Ready}
-use Rattle.rising.specs.Rises.{adding, cutting, ending, Rising, Settling}
 use Rattle.tracing.proofs.Below.{within-alone}
-use Rattle.rising.proofs.Setting.{set-leaf}
-use Rattle.rising.proofs.Growing.{within-ready, leaf-mendable, grow-leaf}
-use Rattle.rising.proofs.Cutting.{cut-leaf}
-use Rattle.rising.proofs.Climbing.{begun-at}
+use Rattle.rising.specs.Changes.{Change, adding, cutting, ending, Begun, Ready, Changed, Becomes}
+use Rattle.rising.specs.Rises.{Rising, Settling}
+use Rattle.rising.proofs.Steps.{begun-near, kid, leads, x-half}
+use Rattle.rising.proofs.Settling.{ready-at}
+use Rattle.tree.specs.OnWays.{Insertable, Grafting}
+
+-- ---- what a change asks, of a tree that stands alone
+pub begun-ending : (k e : ℕ) {m : List ℕ} {t : ℕ} {tr : Tree} → Sole m t tr → Begun (ending k e) m t tr
+begun-ending k e S = record { stands = S .stands; once = λ z. omega (arith, S .once z); even = S .even; low = S .low }
+
+pub begun-cutting : (k : ℕ) {m : List ℕ} {t : ℕ} {tr : Tree} → Sole m t tr → Begun (cutting k) m t tr
+begun-cutting k S = record { stands = S .stands; once = λ z. omega (arith, S .once z); even = S .even; low = S .low }
+
+pub alone-ready : (c : Change) (m : List ℕ) (t : ℕ) → Ready c m t → Alone m t
+alone-ready c m t r = (r .0, record { stands = r .1 .stands; once = λ z. omega (arith, r .1 .once z); even = r .1 .even; low = r .1 .low })
 
 pub short-alone : (m : List ℕ) (t : ℕ) → Alone m t → nodeAt m t .height < longestWay
 short-alone m t a = omega (arith, a .1 .low, tall (a .1 .stands))
 
-pub alone-ready : (m : List ℕ) (t p q : ℕ) → Ready m t p q → Alone m t
-alone-ready m t p q r =
-    (r .0, record { stands = r .1 .stands; once = λ z. omega (arith, r .1 .once z); even = r .1 .even; low = r .1 .low })
+-- a node saved at a seat as the code has it, by its equation
+pub saved-there : (m m′ : List ℕ) {u v : ℕ} {n : Node} → u ≡ v → Saved u n m m′ → Saved v n m m′
+saved-there m m′ e o = rw e at o
 
+-- ---- another end for a leaf
+set-leaf : (m m1 : List ℕ) (s k f : ℕ) (n : Node) → n ≡ nodeAt m s → n .height ≡ 0 → Saved s (leafNode (n .lo) f) m m1 → Becomes (ending k f) s m m1
+unfolding setEnd
+set-leaf m m1 s k f n e z o (leaf j v) B =
+    let lo : n .lo ≡ j = ap (λ (y : Node). y .lo) (reads m s n e (B .stands)) in
+    record { stands = rw (← lo) (leaf-stands (within (B .stands)) o); kept = kept-less (o .kept) (λ y h. omega arith) }
+set-leaf m m1 s k f n e z o (node q l r) B = absurd (omega (arith, reads-height m s n e (B .stands)))
+
+-- ---- a leaf beside a leaf
+module _ (m : List ℕ) (s k e q : ℕ) (G : Grafting m s k e q) (n : Node) (en : n ≡ nodeAt m s) where
+  abbrev d : Bool
+  d = ltb k (n .lo)
+
+  near-in : (b : Bool) → Within m (nearSeat b q)
+  near-in true = G .able .left
+  near-in false = G .able .right
+
+  far-in : (b : Bool) → Within m (farSeat b q)
+  far-in true = G .able .right
+  far-in false = G .able .left
+
+  pub graft-in : Within m s × Within m (farSeat d q) × (q < 4294967296)
+  graft-in = (within (G .able .ready .1 .stands), far-in d, omega (arith, G .able .left .2))
+
+  -- the place taken is not that of s
+  apart : (tr : Tree) → Begun (adding k e q) m s tr → s / 2 ≢ q
+  apart tr B = same-none (s / 2) q (omega (arith, B .once (s / 2), same-self (s / 2)))
+
+  module _ (m1 : List ℕ) (o1 : Copied s (farSeat d q) m m1) where
+    pub leaf-in : Within m1 (nearSeat d q)
+    leaf-in = within-kept _ m m1 (o1 .kept) _ (near-in d)
+
+    module _ (m2 : List ℕ) (o2 : Saved (nearSeat d q) (leafNode k e) m1 m2) where
+      room : Within m2 s
+      room = within-kept _ m1 m2 (o2 .kept) s (within-kept _ m m1 (o1 .kept) s (graft-in .0))
+
+      new-leaf : Stands m2 (nearSeat d q) (leaf k e)
+      new-leaf = leaf-stands leaf-in o2
+
+      old-leaf : (j v : ℕ) → Begun (adding k e q) m s (leaf j v) → Stands m2 (farSeat d q) (leaf j v)
+      old-leaf j v B = stands-past (near-half d q) (o2 .kept) (λ i. near-far d q (sym i)) refl (copied-past (far-half d q) o1 (far-in d) refl (B .stands))
+
+      pub graft-mendable : Mendable m2 s q
+      graft-mendable = go (G .able .ready .0) (G .able .ready .1)
+        where
+          go : (tr : Tree) → Begun (adding k e q) m s tr → Mendable m2 s q
+          go (leaf j v) B = mendable-on d room new-leaf (old-leaf j v B) (omega arith) (omega arith)
+          go (node x l r) B = absurd (omega (arith, G .leaf, tall (B .stands)))
+
+      pub grafted : (m3 : List ℕ) → Over s q m2 m3 → Becomes (adding k e q) s m m3
+      grafted m3 o3 (leaf j v) B =
+          let i : d ≡ ltb k j = ap (λ (y : Node). ltb k (y .lo)) (reads m s n en (B .stands)) in
+          record {
+            stands = rw (insert-leaf k e q j v d i) (over-stands d refl room o3 new-leaf (old-leaf j v B) (apart _ B) refl refl);
+            kept = kept-then {n = λ z. same (z / 2) q}
+                (kept-then (o1 .kept) (o2 .kept) (λ z h. (seat-free z _ q (far-half d q) h, seat-free z _ q (near-half d q) h)))
+                (o3 .kept) (λ z h. (omega (arith, h), omega (arith, h)));
+          }
+      grafted m3 o3 (node x l r) B = absurd (omega (arith, G .leaf, tall (B .stands)))
+
+-- ---- a leaf gone: its sibling is where the node above them was
+-- the sibling's seat, by the leaf's
+pub sibling : (x p : ℕ) (s : Bool) → x ≡ nearSeat s p → farSeat (eqb (x % 2) 0) (x / 2) ≡ farSeat s p
+sibling x p true e =
+    let a : x % 2 ≡ 0 = omega arith in
+    let b : x / 2 ≡ p = omega arith in
+    rw (eq-eqb (x % 2) 0 a, b)
+sibling x p false e =
+    let a : x % 2 ≡ 1 = omega arith in
+    let b : x / 2 ≡ p = omega arith in
+    rw (ne-eqb (x % 2) 0 (λ z. omega arith), b)
+
+-- the side that the key leads to from w
+abbrev sideOf : (m : List ℕ) (k w : ℕ) → Bool
+sideOf m k w = ltb k (nodeAt m (2 * nodeAt m w .place + 1) .lo)
+
+module _ (m : List ℕ) (k w x : ℕ) (L : Leads m k w x) (low : nodeAt m x .height ≡ 0) where
+  abbrev beside : ℕ
+  beside = farSeat (eqb (x % 2) 0) (x / 2)
+
+  at-leaf : (v : ℕ) (l r : Tree) (B : Begun (cutting k) m w (node v l r)) → height (near (sideOf m k w) l r) ≡ 0
+  at-leaf v l r B = sym (tall (kid (cutting k) m w x L v l r B .near-at)) ∙ low
+
+  pub cut-above : (tr : Tree) → Begun (cutting k) m w tr → x / 2 ≡ above k tr
+  cut-above (leaf j v) B = absurd (L .inner (tall (B .stands)))
+  cut-above (node v l r) B =
+      let i = leads (cutting k) m w x L v l r B in
+      rw (above-side k v l r _ i, above-leaf v (above k (near _ l r)) (near _ l r) (at-leaf v l r B)) (x-half (cutting k) m w x L v l r B)
+
+  pub beside-in : (tr : Tree) → Begun (cutting k) m w tr → Within m beside
+  beside-in (leaf j v) B = absurd (L .inner (tall (B .stands)))
+  beside-in (node v l r) B = rw (sibling x (nodeAt m w .place) (sideOf m k w) (L .to)) (within (kid (cutting k) m w x L v l r B .far-at))
+
+  pub cut-leaf : (m1 : List ℕ) → Copied beside w m m1 → Becomes (cutting k) w m m1
+  cut-leaf m1 o (leaf j v) B = absurd (L .inner (tall (B .stands)))
+  cut-leaf m1 o (node v l r) B =
+      let c = kid (cutting k) m w x L v l r B in
+      let i = leads (cutting k) m w x L v l r B in
+      let u = rw (sibling x (nodeAt m w .place) (sideOf m k w) (L .to)) at o in
+      record {
+        stands = rw (remove-side k v l r _ i, less-leaf _ v (near _ l r) (remove k (near _ l r)) (far _ l r) (at-leaf v l r B))
+            (copied-past refl u (within (B .stands)) (omega (arith, B .once (w / 2), same-self (w / 2), uses-sides (w / 2) (sideOf m k w) l r)) (c .far-at));
+        kept = kept-less (o .kept) (λ y h. omega arith);
+      }
+
+-- ---- on a way
 module _ (m : List ℕ) (t k d : ℕ) (ws : List ℕ) (W : Way m t k d ws) where
-  abbrev end : ℕ
-  end = getD ws d 0
+  abbrev at : ℕ → ℕ
+  at i = getD ws i 0
 
-  -- what is read at the end of the way is a leaf
-  low-end : (n : Node) → n ≡ nodeAt m end → n .height ≡ 0
+  low-end : (n : Node) → n ≡ nodeAt m (at d) → n .height ≡ 0
   low-end n e = ap (λ (z : Node). z .height) e ∙ W .last
 
-  -- ---- another end
-  pub end-in : Alone m t → Within m end
-  end-in a = within-alone m end (begun-at (ending 0) m t k d ws a W d (omega arith))
+  pub end-in : Alone m t → Within m (at d)
+  end-in a = within-alone m (at d) (alone-ready (ending k 0) m (at d) (ready-at (ending k 0) m t d ws (a .0, begun-ending k 0 (a .1)) W d (omega arith)))
 
-  pub ending-start : Alone m t → (f : ℕ) (n : Node) → n ≡ nodeAt m end → (m1 : List ℕ) → Saved end (leafNode (n .lo) f) m m1 → Settling (ending f) m t k d ws d m1
+  pub ending-start : Alone m t → (f : ℕ) (n : Node) → n ≡ nodeAt m (at d) → (m1 : List ℕ) → Saved (at d) (leafNode (n .lo) f) m m1 → Settling (ending k f) m t d ws d m1
   ending-start a f n e m1 o =
       record {
-        rising = record { begun = a; way = W; deep = omega arith; is = (set-leaf m m1 end k f n e (low-end n e) o, refl) };
+        rising = record { begun = (a .0, begun-ending k f (a .1)); way = W; deep = omega arith; is = set-leaf m m1 (at d) k f n e (low-end n e) o };
         high = ap (λ (z : Node). z .height) (o .at) ∙ sym (W .last);
       }
 
-  -- ---- a leaf more, at p, under the node q
-  module _ (p q : ℕ) (r : Ready m t p q) where
-    at-end : Ready m end p q
-    at-end = begun-at (adding 0 p q) m t k d ws r W d (omega arith)
+  -- ---- a leaf more
+  module _ (e q : ℕ) (I : Insertable m t k e q) where
+    pub grafting : Grafting m (at d) k e q
+    grafting = record { able = record { ready = ready-at (adding k e q) m t d ws (I .ready) W d (omega arith); left = I .left; right = I .right }; leaf = W .last }
 
-    pub beside-in : Within m end × Within m p
-    beside-in = within-ready m end p q at-end
-
-    module _ (f : ℕ) (m1 : List ℕ) (o : Saved p (leafNode k f) m m1) where
-      pub beside-mendable : Mendable m1 q p end
-      beside-mendable = leaf-mendable m m1 end k f p q o at-end
-
-      pub adding-start : (n : Node) → n ≡ nodeAt m end → (m2 : List ℕ) → OverOn (ltb k (n .lo)) q p end m1 m2 → Rising (adding f p q) m t k d ws d q m2
-      adding-start n e m2 u = record { begun = r; way = W; deep = omega arith; is = grow-leaf m m1 end k f p q o m2 n (ltb k (n .lo)) e (low-end n e) refl u }
+    pub adding-start : (m1 : List ℕ) → Becomes (adding k e q) (at d) m m1 → Rising (adding k e q) m t d ws d m1
+    adding-start m1 b = record { begun = I .ready; way = W; deep = omega arith; is = b }
 
   -- ---- a leaf less
   module _ (a : Alone m t) (h : 1 ≤ nodeAt m t .height) where
@@ -72,20 +188,39 @@ module _ (m : List ℕ) (t k d : ℕ) (ws : List ℕ) (W : Way m t k d ws) where
         go zero e = absurd (omega (arith, ap (λ (z : ℕ). nodeAt m z .height) (W .first), rw (← e) at (W .last)))
         go (suc i) e = omega arith
 
-    abbrev above : ℕ
-    above = getD ws (d - 1) 0
+    ready : (i : ℕ) → i ≤ d → Ready (cutting k) m (at i)
+    ready i l = ready-at (cutting k) m t d ws (a .0, begun-cutting k (a .1)) W i l
 
-    leads : Leads m k above end
-    leads = let e : suc (d - 1) ≡ d = omega (arith, deep-one) in rw e at (W .leads (d - 1) (omega (arith, deep-one)))
+    leads-end : Leads m k (at (d - 1)) (at d)
+    leads-end = let e : suc (d - 1) ≡ d = omega (arith, deep-one) in rw e at (W .leads (d - 1) (omega (arith, deep-one)))
 
-    pub above-in : Within m above
-    above-in = within-alone m above (begun-at (ending 0) m t k d ws a W (d - 1) (omega arith))
+    pub above-in : Within m (at (d - 1))
+    above-in = within (ready (d - 1) (omega arith) .1 .stands)
 
-    pub cutting-start : (n : Node) → n ≡ nodeAt m above → (y : ℕ) → y ≡ far (ltb k (n .split)) (n .left) (n .right) → Rising (cutting end above) m t k d ws (d - 1) y m
-    cutting-start n e y ey =
+    pub sibling-in : Within m (farSeat (eqb (at d % 2) 0) (at d / 2))
+    sibling-in = let r = ready (d - 1) (omega arith) in beside-in m k (at (d - 1)) (at d) leads-end (W .last) (r .0) (r .1)
+
+    pub cutting-start : (m1 : List ℕ) → Copied (farSeat (eqb (at d % 2) 0) (at d / 2)) (at (d - 1)) m m1 → Rising (cutting k) m t d ws (d - 1) m1
+    cutting-start m1 o =
         record {
-          begun = a;
+          begun = (a .0, begun-cutting k (a .1));
           way = W;
           deep = omega (arith, deep-one);
-          is = cut-leaf m above k n e (λ z. leads .inner (sym (ap (λ (u : Node). u .height) e) ∙ z)) (ltb k (n .split)) refl end y (rw e (leads .to)) ey (nodeAt m end) refl (W .last);
+          is = cut-leaf m k (at (d - 1)) (at d) leads-end (W .last) m1 o;
         }
+
+    -- the place that comes free is the leaf's
+    from : (n i : ℕ) → n + suc i ≡ d → (tr : Tree) → Begun (cutting k) m (at i) tr → at d / 2 ≡ above k tr
+    from zero i e tr B =
+        let j : i ≡ d - 1 = omega arith in
+        cut-above m k (at (d - 1)) (at d) leads-end (W .last) tr (rw j at B)
+    from (suc n) i e (leaf j v) B = absurd (W .leads i (omega arith) .inner (tall (B .stands)))
+    from (suc n) i e (node v l r) B =
+        let L = W .leads i (omega arith) in
+        let g = leads (cutting k) m (at i) (at (suc i)) L v l r B in
+        let N = begun-near (cutting k) m (at i) (at (suc i)) L v l r B in
+        let u = W .leads (suc i) (omega arith) .inner in
+        rw (above-side k v l r (sideOf m k (at i)) g, above-node v (above k (near (sideOf m k (at i)) l r)) (near (sideOf m k (at i)) l r) (omega (arith, u, tall (N .stands)))) (from n (suc i) (omega arith) (near (sideOf m k (at i)) l r) N)
+
+    pub freed : (tr : Tree) → Begun (cutting k) m t tr → at d / 2 ≡ above k tr
+    freed tr B = from (d - 1) 0 (omega (arith, deep-one)) tr (rw (W .first) B)

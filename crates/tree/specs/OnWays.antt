@@ -1,21 +1,37 @@
--- What the tree's functions ask and promise over a way that is noted: an end set, the way being noted in part, and the leaf at its
--- end taken out.
+-- What the tree's functions ask and promise beyond a change of the whole tree (rising's Changes): an end set, the way being noted in part; the leaf
+-- at the end of a way taken out; and which place a removal frees.
+use mathlib.Core.Path.{_≡_}
 use mathlib.Core.List.{List}
-use Prim.Native.Nat.{ℕ, _≤_}
-use Rattle.shape.specs.Tree.{Tree, Ord}
-use Rattle.node.specs.Layout.{nodeAt}
-use Rattle.tracing.specs.Alone.{Sole, Alone}
+use Prim.Native.Nat.{ℕ, _+_, _*_, _≤_}
+use Rattle.shape.specs.Tree.{Tree}
+use Rattle.shape.specs.Arrange.{above}
+use Rattle.node.specs.Layout.{Within, nodeAt}
+use Rattle.tracing.specs.Alone.{Alone}
 use Rattle.tracing.specs.Ways.{Way, Partway}
-use Rattle.rising.specs.declared.Cut.{Cut}
-use Rattle.rising.specs.Changes.{Sets, Shrunk, Removes}
+use Rattle.rising.specs.Changes.{adding, cutting, ending, Begun, Ready, Changed, Becomes}
 
 -- ---- an end set, the way being noted in part
 abbrev pub SetsOn : List ℕ → (d k e : ℕ) → (m m′ : List ℕ) → Type 0
-SetsOn ws d k e m m′ = (t : ℕ) → Partway m t k d ws → Sets t k e m m′
+SetsOn ws d k e m m′ = (t : ℕ) → Partway m t k d ws → Becomes (ending k e) t m m′
 
--- ---- a leaf taken out at the end of the way
+-- ---- a leaf put in: the place that it takes is inside
+pub record Insertable (m : List ℕ) (t k e q : ℕ) : Type 0 where
+  pub ready : Ready (adding k e q) m t
+  pub left : Within m (2 * q)
+  pub right : Within m (2 * q + 1)
+
+-- beside the leaf at seat s
+pub record Grafting (m : List ℕ) (s k e q : ℕ) : Type 0 where
+  pub able : Insertable m s k e q
+  pub leaf : nodeAt m s .height ≡ 0
+
+-- ---- a leaf taken out: which place is free again
+abbrev pub Removes : (t k q : ℕ) → (m m′ : List ℕ) → Type 0
+Removes t k q m m′ = (tr : Tree) → Begun (cutting k) m t tr → (q ≡ above k tr) × Changed (cutting k) t tr m m′
+
+-- at the end of a way
 abbrev pub Cuttable : List ℕ → (d k : ℕ) → List ℕ → Type 0
 Cuttable ws d k m = (t : ℕ) × Way m t k d ws × (1 ≤ nodeAt m t .height) × Alone m t
 
-abbrev pub Cuts : List ℕ → (d k : ℕ) → Cut → (m m′ : List ℕ) → Type 0
-Cuts ws d k c m m′ = (t : ℕ) → Way m t k d ws → 1 ≤ nodeAt m t .height → Alone m t → Removes t k c m m′
+abbrev pub Cuts : List ℕ → (d k q : ℕ) → (m m′ : List ℕ) → Type 0
+Cuts ws d k q m m′ = (t : ℕ) → Way m t k d ws → 1 ≤ nodeAt m t .height → Alone m t → Removes t k q m m′

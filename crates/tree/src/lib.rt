@@ -4,16 +4,15 @@ ghost use Prim.Native.Nat.{_≤_};
 ghost use Rattle.node.specs.Layout.{nodeAt};
 ghost use Rattle.tracing.specs.Alone.{Alone};
 ghost use Rattle.tracing.specs.Ways.{Begins};
-ghost use Rattle.rising.specs.Changes.{Ready, Sets, Inserts, Removes};
-ghost use Rattle.tree.specs.OnWays.{SetsOn, Cuttable, Cuts};
-pub use rising::Cut;
+ghost use Rattle.rising.specs.Changes.{adding, ending, Becomes};
+ghost use Rattle.tree.specs.OnWays.{SetsOn, Insertable, Removes, Cuttable, Cuts, Grafting};
+use node::far;
+use node::near;
 use rising::rise;
 use rising::settle;
 use tracing::LONGEST_WAY;
 use tracing::trace;
 use tracing::trace_on;
-use turning::far;
-use turning::mend_on;
 
 // Gives the leaf that the key leads to the end `end`, the key's way being noted in part.
 pub fn set_end_on(mem: &mut [u8], way: &mut [u16], noted: usize, key: u64, end: u64)
@@ -30,46 +29,54 @@ pub fn set_end_on(mem: &mut [u8], way: &mut [u16], noted: usize, key: u64, end: 
 // Gives the leaf that the key leads to the end `end`.
 pub fn set_end(mem: &mut [u8], t: usize, key: u64, end: u64)
     requires { ⌜ Alone (now mem) t ⌝ }
-    ensures { λ _. ⌜ Sets t key end (now (mem .entry)) (now (mem .exit)) ⌝ }
+    ensures { λ _. ⌜ Becomes (ending key end) t (now (mem .entry)) (now (mem .exit)) ⌝ }
 {
     let mut way = [0u16; LONGEST_WAY];
     way[0] = t as u16;
     set_end_on(mem, &mut way, 0, key, end);
 }
 
-// Puts a leaf at place p into the tree at t, under a new node at place q. The tree's new place.
-pub fn insert(mem: &mut [u8], t: usize, key: u64, end: u64, p: usize, q: usize) -> usize
-    requires { ⌜ Ready (now mem) t p q ⌝ }
-    ensures { λ r. ⌜ Inserts t key end p q r (now (mem .entry)) (now (mem .exit)) ⌝ }
+// Puts a leaf beside the one at seat s, both at place q, and a node over them at s.
+fn graft(mem: &mut [u8], s: usize, key: u64, end: u64, q: u64)
+    requires { ⌜ Grafting (now mem) s key end q ⌝ }
+    ensures { λ _. ⌜ Becomes (adding key end q) s (now (mem .entry)) (now (mem .exit)) ⌝ }
+{
+    let n = node::load(mem, s);
+    let left = key < n.lo;
+    node::copy(mem, s, far(left, q));
+    node::save(mem, near(left, q), node::leaf(key, end));
+    summing::mend(mem, s, q);
+}
+
+// Puts a leaf into the tree at t, under a new node whose children stand at place q.
+pub fn insert(mem: &mut [u8], t: usize, key: u64, end: u64, q: u64)
+    requires { ⌜ Insertable (now mem) t key end q ⌝ }
+    ensures { λ _. ⌜ Becomes (adding key end q) t (now (mem .entry)) (now (mem .exit)) ⌝ }
 {
     let mut way = [0u16; LONGEST_WAY];
     let depth = trace(mem, t, key, &mut way);
-    let beside = way[depth] as usize;
-    let n = node::load(mem, beside);
-    node::save(mem, p, node::leaf(key, end));
-    mend_on(mem, q, p, beside, key < n.lo);
-    rise(mem, &way, depth, key, q)
+    graft(mem, way[depth] as usize, key, end, q);
+    rise(mem, &way, depth);
 }
 
-// Takes the leaf at the end of the key's way out of the tree.
-fn take_out(mem: &mut [u8], way: &[u16], depth: usize, key: u64) -> Cut
+// Takes the leaf at the end of the key's way out of the tree: what is beside it goes where the node above them was. The place that is free.
+fn take_out(mem: &mut [u8], way: &[u16], depth: usize, key: u64) -> u64
     requires { ⌜ Cuttable (now way) depth key (now mem) ⌝ }
-    ensures { λ c. ⌜ Cuts (now (way .entry)) depth key c (now (mem .entry)) (now (mem .exit)) ⌝ }
+    ensures { λ q. ⌜ Cuts (now (way .entry)) depth key q (now (mem .entry)) (now (mem .exit)) ⌝ }
 {
     let leaf = way[depth] as usize;
+    let q = (leaf / 2) as u64;
     let above = depth - 1;
-    let node = way[above] as usize;
-    let n = node::load(mem, node);
-    let beside = far(key < n.split, n.left, n.right);
-    let root = rise(mem, way, above, key, beside);
-    Cut { root, leaf, node }
+    node::copy(mem, far(leaf % 2 == 0, q), way[above] as usize);
+    rise(mem, way, above);
+    q
 }
 
-// Takes the leaf that the key leads to out of the tree at t, which is no leaf itself.
-pub fn remove(mem: &mut [u8], t: usize, key: u64) -> Cut
+// Takes the leaf that the key leads to out of the tree at t, which is no leaf itself. The place that is free.
+pub fn remove(mem: &mut [u8], t: usize, key: u64) -> u64
     requires { ⌜ 1 ≤ nodeAt (now mem) t .height ⌝ }
     requires { ⌜ Alone (now mem) t ⌝ }
-    ensures { λ c. ⌜ Removes t key c (now (mem .entry)) (now (mem .exit)) ⌝ }
+    ensures { λ q. ⌜ Removes t key q (now (mem .entry)) (now (mem .exit)) ⌝ }
 {
     let mut way = [0u16; LONGEST_WAY];
     let depth = trace(mem, t, key, &mut way);

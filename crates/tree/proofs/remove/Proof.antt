@@ -7,7 +7,7 @@ slice-aggregate-trace : tie.Need-slice-aggregate-trace
 slice-aggregate-trace c = search needs
 
 trace-requires : tie.Need-trace-requires
-trace-requires c κs = (omega arith, c .before .before .before .pre .1)
+trace-requires c κs = search needs
 
 slice-aggregate-take-out : tie.Need-slice-aggregate-take-out
 slice-aggregate-take-out c = search needs

@@ -1,3 +1,4 @@
+-- `tree::set_end`: the way from the root. Assumes nothing.
 use borrow.Author.Needs.{needs}
 use native.Mathlib.Omega.{arith}
 use Rattle.tracing.proofs.Below.{within-alone}

@@ -1,6 +1,7 @@
+-- `tree::set_end_on`: down to the leaf, its end, up again (Starting). Assumes nothing.
 use borrow.Author.Needs.{needs}
 use native.Mathlib.Omega.{arith}
-use Rattle.rising.specs.Rises.{ending}
+use Rattle.rising.specs.Changes.{ending}
 use Rattle.turning.proofs.Sides.{leaf-fits, saved-as}
 use Rattle.tree.proofs.Starting.{end-in, ending-start}
 use Rattle.tree.proofs.set_end_on.Statement.{statement}
@@ -28,7 +29,7 @@ save-requires : tie.Need-save-requires
 save-requires c κs = (end-in _ _ _ _ _ (c .before .before .before .before .before .before .before .trace-on .ensures _ (c .before .before .before .before .before .before .before .before .before .before .before .before .pre .1)) (c .before .before .before .before .before .before .before .before .before .before .before .before .pre .1 .alone), leaf-fits (c .leaf .ensures))
 
 settle-requires : tie.Need-settle-requires
-settle-requires c κs = (_, _, _, _, _, ending-start _ _ _ _ _ (c .before .before .before .before .before .before .before .before .before .before .before .before .trace-on .ensures _ (c .before .before .before .before .before .before .before .before .before .before .before .before .before .before .before .before .before .pre .1)) (c .before .before .before .before .before .before .before .before .before .before .before .before .before .before .before .before .before .pre .1 .alone) _ _ (c .before .before .before .before .before .before .before .load .ensures) _ (saved-as (c .before .before .before .before .before .leaf .ensures) (c .before .before .before .before .save .ensures)))
+settle-requires c κs = (_, _, _, _, ending-start _ _ _ _ _ (c .before .before .before .before .before .before .before .before .before .before .before .before .trace-on .ensures _ (c .before .before .before .before .before .before .before .before .before .before .before .before .before .before .before .before .before .pre .1)) (c .before .before .before .before .before .before .before .before .before .before .before .before .before .before .before .before .before .pre .1 .alone) _ _ (c .before .before .before .before .before .before .before .load .ensures) _ (saved-as (c .before .before .before .before .before .leaf .ensures) (c .before .before .before .before .save .ensures)))
 
 same-length : tie.Need-same-length
 same-length c = search needs
@@ -37,7 +38,7 @@ same-length-2 : tie.Need-same-length-2
 same-length-2 c = search needs
 
 returns : tie.Need-returns
-returns c = λ t P. c .before .before .settle .ensures (ending (c .before .before .before .before .before .before .before .before .before .before .before .before .before .before .before .before .before .before .before .before .args .end)) _ _ _ _ (ending-start _ _ _ _ _ (c .before .before .before .before .before .before .before .before .before .before .before .before .before .before .before .trace-on .ensures t P) (P .alone) _ _ (c .before .before .before .before .before .before .before .before .before .before .load .ensures) _ (saved-as (c .before .before .before .before .before .before .before .before .leaf .ensures) (c .before .before .before .before .before .before .before .save .ensures))) .0
+returns c = λ t P. c .before .before .settle .ensures (ending (c .before .before .before .before .before .before .before .before .before .before .before .before .before .before .before .before .before .before .before .before .args .key) (c .before .before .before .before .before .before .before .before .before .before .before .before .before .before .before .before .before .before .before .before .args .end)) _ _ _ (ending-start _ _ _ _ _ (c .before .before .before .before .before .before .before .before .before .before .before .before .before .before .before .trace-on .ensures t P) (P .alone) _ _ (c .before .before .before .before .before .before .before .before .before .before .load .ensures) _ (saved-as (c .before .before .before .before .before .before .before .before .leaf .ensures) (c .before .before .before .before .before .before .before .save .ensures)))
 
 pub set-end-on-spec : {M : Type 1} → statement M
 set-end-on-spec =
