@@ -3,7 +3,7 @@
 use mathlib.Core.Path.{_≡_, refl, sym, ap, _∙_}
 use mathlib.Core.Logic.{inl, inr}
 use mathlib.Core.List.{List, [], _∷_}
-use Prim.Native.Nat.{ℕ, zero, suc, _+_, _*_, _^_, _≤_, _<_}
+use Prim.Native.Nat.{ℕ, zero, suc, _+_, _*_, _/_, _^_, _≤_, _<_}
 use native.Mathlib.Decide.{ℕ-discrete}
 use native.Mathlib.Omega.{arith}
 use lib.ListN.{length, getD, set, length-set}
@@ -12,15 +12,16 @@ use Rattle.numbers.specs.Case.{case-lt}
 use Rattle.numbers.specs.Words.{word, store}
 use Rattle.numbers.proofs.WordLaws.{word-other, word-same, byte-other, length-store}
 use Rattle.shape.specs.Tree.{Tree, leaf, node, same, uses}
-use Rattle.shape.specs.PlaceLaws.{same-self, same-other}
-use Rattle.node.specs.Layout.{headerWords, Within, base, nodeAt, placeOf, Kept, Saved}
-use Rattle.node.specs.Rep.{Rep}
-use Rattle.node.proofs.Frames.{word-kept, node-kept}
-use Rattle.node.proofs.Reps.{rep-nodes, rep-frame}
+use Rattle.shape.specs.PlaceLaws.{same-self, same-other, same-none}
+use Rattle.node.specs.declared.Node.{Node}
+use Rattle.node.specs.Layout.{headerWords, rootSeat, Within, base, nodeAt, seatOf, leafNode, Kept, Saved}
+use Rattle.node.specs.Rep.{Stands}
+use Rattle.node.proofs.Frames.{word-kept, node-kept, kept-then}
+use Rattle.node.proofs.Reps.{within, stands-nodes, stands-frame, stands-apart}
 use Rattle.state.specs.State.{State, first, places}
 use Rattle.state.specs.Sound.{among, below}
 use Rattle.memory.specs.Header.{padded, header, Heads}
-use Rattle.memory.specs.Holds.{spareNode, Spares, Past, After}
+use Rattle.memory.specs.Holds.{spareNode, Spares, Gives, Past, After}
 use Rattle.memory.specs.Steps.{Link}
 use Rattle.memory.specs.Part.{Part}
 
@@ -40,27 +41,57 @@ pub below-in : (z n : ℕ) → 1 ≤ below z n → z < n
 below-in z n h = elim (case-lt z n) [ inl y ↦ y .0 | inr y ↦ absurd (omega (arith, below-out z n (y .0))) ]
 
 -- ---- a word of the header is in no node
-pub node-store : (m : List ℕ) (i v z : ℕ) → i < 26 → nodeAt (store m i v) z ≡ nodeAt m z
+pub node-store : (m : List ℕ) (i v z : ℕ) → i < 28 → 1 ≤ z → nodeAt (store m i v) z ≡ nodeAt m z
 unfolding nodeAt
-node-store m i v z h =
+node-store m i v z h o =
     let e : (j : ℕ) → base z ≤ j → word (store m i v) j ≡ word m j = λ j l. word-other m i v j (omega arith) in
-    rw (e (base z) (omega arith), e (base z + 1) (omega arith), e (base z + 2) (omega arith), e (base z + 3) (omega arith), e (base z + 4) (omega arith))
+    rw (e (base z) (omega arith), e (base z + 1) (omega arith), e (base z + 2) (omega arith), e (base z + 3) (omega arith))
 
-rep-store : (t : Tree) (m : List ℕ) (i v : ℕ) → i < 26 → Rep m t → Rep (store m i v) t
-rep-store t m i v h r = rep-nodes t m (store m i v) (length-store m i v) (λ z u. node-store m i v z h) r
+pub stands-store : (t : Tree) (m : List ℕ) (s i v : ℕ) → i < 28 → Stands m s t → Stands (store m i v) s t
+stands-store t m s i v h r = stands-nodes (length-store m i v) (node-store m i v s h (within r .1)) (λ z u. node-store m i v z h (some z u)) r
+  where
+    -- the place 0 is no node's
+    some : (z : ℕ) → 1 ≤ uses (z / 2) t → 1 ≤ z
+    some zero u = absurd (omega (arith, u, stands-apart t m s r))
+    some (suc z) u = omega arith
 
 -- the header with one word put
-pub heads-put : (m h : List ℕ) (i v : ℕ) → 208 ≤ length m → length h ≡ headerWords → i < 26 → v < 2 ^ 64 → Heads m h → Heads (store m i v) (set h i v)
+pub heads-put : (m h : List ℕ) (i v : ℕ) → 224 ≤ length m → length h ≡ headerWords → i < 28 → v < 2 ^ 64 → Heads m h → Heads (store m i v) (set h i v)
 heads-put m h i v long wide li lv f j l = elim (ℕ-discrete j i) [
   | yes e ↦ rw e (word-same m i v (omega arith) lv ∙ sym (getD-set-same h i v 0 (omega arith)))
   | no d ↦ word-other m i v j d ∙ f j l ∙ sym (getD-set-other h i j v 0 d)
 ]
 
--- spare nodes that stay
-pub spares-frame : (ps m m′ : List ℕ) → ((z : ℕ) → 1 ≤ among z ps → nodeAt m′ z ≡ nodeAt m z) → Spares m ps → Spares m′ ps
+-- spare places that stay
+pub spares-frame : (ps m m′ : List ℕ) → ((z : ℕ) → 1 ≤ among (z / 2) ps → nodeAt m′ z ≡ nodeAt m z) → Spares m ps → Spares m′ ps
 unfolding Spares
 spares-frame [] m m′ f s = tt
-spares-frame (p ∷ ps) m m′ f s = (f p (omega (arith, same-self p)) ∙ s .0, spares-frame ps m m′ (λ z h. f z (omega arith)) (s .1))
+spares-frame (p ∷ ps) m m′ f s =
+    let l : (2 * p) / 2 ≡ p = omega arith in
+    let r : (2 * p + 1) / 2 ≡ p = omega arith in (
+      f (2 * p) (rw l (omega (arith, same-self p))) ∙ s .0,
+      f (2 * p + 1) (rw r (omega (arith, same-self p))) ∙ s .1,
+      spares-frame ps m m′ (λ z h. f z (omega arith)) (s .2),
+    )
+
+-- a spare place's left node, read at the seat that the code worked out
+pub spare-read : (m : List ℕ) (p : ℕ) {u : ℕ} {n : Node} → u ≡ 2 * p → n ≡ nodeAt m u → n .place ≡ nodeAt m (2 * p) .place
+spare-read m p e r = ap (λ (y : Node). y .place) (rw e at r)
+
+-- a place given, seat by seat: first the word of the header, then its two nodes
+pub gives : (m m1 m2 m3 : List ℕ) (p k : ℕ) {next u v : ℕ} {n : Node} → m1 ≡ store m 7 p → next ≡ word m 7 → u ≡ 2 * p → v ≡ 2 * p + 1
+    → Saved u (spareNode k next) m1 m2 → n ≡ leafNode 0 0 → Saved v n m2 m3 → Gives p k m m3
+gives m m1 m2 m3 p k em en eu ev f el g =
+    let F : Saved (2 * p) (spareNode k (word m 7)) (store m 7 p) m2 = rw (em, en, eu) at f in
+    let G : Saved (2 * p + 1) (leafNode 0 0) m2 m3 = rw (el, ev) at g in
+    record {
+      left = node-kept _ m2 m3 (G .kept) (2 * p) (same-other (2 * p) (2 * p + 1) (λ e. omega arith)) ∙ F .at;
+      right = G .at;
+      kept = kept-then (F .kept) (G .kept) (λ z h. (off z (2 * p) h (omega arith), off z (2 * p + 1) h (omega arith)));
+    }
+  where
+    off : (z u : ℕ) → same (z / 2) p ≡ 0 → u / 2 ≡ p → same z u ≡ 0
+    off z u h q = same-other z u (λ e. same-none (z / 2) p h (ap (λ (y : ℕ). y / 2) e ∙ q))
 
 -- ---- past the n places
 pub past-none : (n : ℕ) (m : List ℕ) → Past n m m
@@ -69,74 +100,98 @@ past-none n m = record { len = refl; byte = λ b h. refl }
 pub past-then : {n : ℕ} {m m′ m″ : List ℕ} → Past n m m′ → Past n m′ m″ → Past n m m″
 past-then f g = record { len = g .len ∙ f .len; byte = λ b h. g .byte b h ∙ f .byte b h }
 
-pub past-store : (m : List ℕ) (i v n : ℕ) → i < 26 → Past (208 + 40 * n) m (store m i v)
-past-store m i v n h = record { len = length-store m i v; byte = λ b l. byte-other m i v b (inr (omega arith)) }
+pub past-store : (m : List ℕ) (i v n : ℕ) → i < 28 → 1 ≤ n → Past (192 + 64 * n) m (store m i v)
+past-store m i v n h o = record { len = length-store m i v; byte = λ b l. byte-other m i v b (inr (omega arith)) }
 
-pub past-kept : (k : ℕ → ℕ) (m m′ : List ℕ) (n : ℕ) → Kept k m m′ → ((z : ℕ) → n ≤ z → k z ≡ 0) → Past (208 + 40 * n) m m′
-past-kept k m m′ n f h = record { len = f .len; byte = λ b l. f .byte b (inr (h (placeOf b) (omega arith))) }
+pub past-kept : (k : ℕ → ℕ) (m m′ : List ℕ) (n : ℕ) → Kept k m m′ → ((z : ℕ) → 2 * n ≤ z → k z ≡ 0) → Past (192 + 64 * n) m m′
+past-kept k m m′ n f h = record { len = f .len; byte = λ b l. f .byte b (inr (h (seatOf b) (omega arith))) }
+
+-- a seat at a place where nothing was written, and not the root's
+off-seat : (u : ℕ → ℕ) (z : ℕ) → same (z / 2) 0 + u (z / 2) ≡ 0 → same z 1 + u (z / 2) ≡ 0
+off-seat u z h = omega (arith, h, same-other z 1 (λ e. same-none (z / 2) 0 (omega (arith, h)) (omega arith)))
 
 module _ (m0 m : List ℕ) (n : ℕ) (h : List ℕ) (t : Tree) where
-  -- a place among the spare ones is inside
-  pub part-in : (p : ℕ) (ps : List ℕ) → Part m0 m n h t (p ∷ ps) → Within m p
-  part-in p ps P = omega (arith, P .small, P .long, below-in p n (omega (arith, P .once p, same-self p)))
+  -- a spare place is one of the link's, and not the root's; its seats are inside
+  pub part-in : (p : ℕ) (ps : List ℕ) → Part m0 m n h t (p ∷ ps) → (1 ≤ p) × (p < n)
+  part-in zero ps P = absurd (omega (arith, P .once 0, same-self 0, below-most 0 n))
+  part-in (suc p) ps P = (omega arith, below-in (suc p) n (omega (arith, P .once (suc p), same-self (suc p))))
+
+  pub part-seats : (p : ℕ) (ps : List ℕ) → Part m0 m n h t (p ∷ ps) → Within m (2 * p) × Within m (2 * p + 1)
+  part-seats p ps P = let i = part-in p ps P in (omega (arith, P .small, P .long), omega (arith, P .small, P .long))
 
   pub part-drop : (p : ℕ) (ps : List ℕ) → Part m0 m n h t (p ∷ ps) → Part m0 m n h t ps
   unfolding Spares
   part-drop p ps P =
-      record { small = P .small; long = P .long; wide = P .wide; heads = P .heads; rep = P .rep; spare = P .spare .1; once = λ z. omega (arith, P .once z); past = P .past }
+      record { small = P .small; long = P .long; wide = P .wide; heads = P .heads; stands = P .stands; spare = P .spare .2; once = λ z. omega (arith, P .once z); past = P .past }
 
-  pub part-first : (ps : List ℕ) → Part m0 m n h t ps → first ps < 65536
+  pub part-first : (ps : List ℕ) → Part m0 m n h t ps → first ps < 32768
   part-first [] P = omega arith
-  part-first (p ∷ ps) P = omega (arith, part-in p ps P)
+  part-first (p ∷ ps) P = omega (arith, part-in p ps P, P .small)
 
   module _ (ps : List ℕ) (P : Part m0 m n h t ps) where
+    -- the root's place is the link's
+    pub part-some : 1 ≤ n
+    part-some = below-in 0 n (omega (arith, P .once 0, same-self 0))
+
     -- a word of the header
-    pub part-put : (i v : ℕ) → i < 26 → v < 2 ^ 64 → Part m0 (store m i v) n (set h i v) t ps
+    pub part-put : (i v : ℕ) → i < 28 → v < 2 ^ 64 → Part m0 (store m i v) n (set h i v) t ps
     part-put i v li lv =
         record {
           small = P .small;
           long = omega (arith, P .long, length-store m i v);
           wide = length-set h i v ∙ P .wide;
-          heads = heads-put m h i v (omega (arith, P .long)) (P .wide) li lv (P .heads);
-          rep = rep-store t m i v li (P .rep);
-          spare = spares-frame ps m (store m i v) (λ z u. node-store m i v z li) (P .spare);
+          heads = heads-put m h i v (omega (arith, P .long, part-some)) (P .wide) li lv (P .heads);
+          stands = stands-store t m rootSeat i v li (P .stands);
+          spare = spares-frame ps m (store m i v) (λ z u. node-store m i v z li (some z u)) (P .spare);
           once = P .once;
-          past = past-then (P .past) (past-store m i v n li);
+          past = past-then (P .past) (past-store m i v n li part-some);
         }
+      where
+        some : (z : ℕ) → 1 ≤ among (z / 2) ps → 1 ≤ z
+        some zero u = absurd (omega (arith, u, P .once 0, same-self 0, below-most 0 n))
+        some (suc z) u = omega arith
 
-    -- another tree, for which only places of the link that are not spare were written
-    pub part-tree : (k : ℕ → ℕ) (m′ : List ℕ) (t′ : Tree) → Kept k m m′ → Rep m′ t′ → ((z : ℕ) → k z + among z ps ≤ below z n)
-        → ((z : ℕ) → uses z t′ + among z ps ≤ below z n) → Part m0 m′ n h t′ ps
-    part-tree k m′ t′ f r g o =
+    -- another tree, for which only the root's seat and places of the link that are not spare were written
+    pub part-tree : (u : ℕ → ℕ) (m′ : List ℕ) (t′ : Tree) → Kept (λ z. same z rootSeat + u (z / 2)) m m′ → Stands m′ rootSeat t′
+        → ((z : ℕ) → same z 0 + u z + among z ps ≤ below z n) → ((z : ℕ) → same z 0 + uses z t′ + among z ps ≤ below z n) → Part m0 m′ n h t′ ps
+    part-tree u m′ t′ f r g o =
         record {
           small = P .small;
           long = omega (arith, P .long, f .len);
           wide = P .wide;
-          heads = λ j l. word-kept k m m′ f j l ∙ P .heads j l;
-          rep = r;
-          spare = spares-frame ps m m′ (λ z u. node-kept k m m′ f z (omega (arith, g z, below-most z n))) (P .spare);
+          heads = λ j l. word-kept _ m m′ f j l ∙ P .heads j l;
+          stands = r;
+          spare = spares-frame ps m m′ (λ z a. node-kept _ m m′ f z (off-seat u z (omega (arith, g (z / 2), below-most (z / 2) n)))) (P .spare);
           once = o;
-          past = past-then (P .past) (past-kept k m m′ n f (λ z l. omega (arith, g z, below-out z n l)));
+          past = past-then (P .past) (past-kept _ m m′ n f (λ z l. off-seat u z (omega (arith, g (z / 2), below-out (z / 2) n (omega arith)))));
         }
 
     -- one spare place more
-    pub part-give : (m′ : List ℕ) (p : ℕ) → p < n → uses p t + among p ps ≡ 0 → Saved p (spareNode (length ps) (first ps)) m m′ → Part m0 m′ n h t (p ∷ ps)
-    unfolding Spares
-    part-give m′ p lp free s =
-        let off : (z : ℕ) → 1 ≤ uses z t + among z ps → same z p ≡ 0 = λ z u. same-other z p (λ e. omega (arith, ap (λ (y : ℕ). uses y t + among y ps) e)) in
-        record {
-          small = P .small;
-          long = omega (arith, P .long, s .kept .len);
-          wide = P .wide;
-          heads = λ j l. word-kept _ m m′ (s .kept) j l ∙ P .heads j l;
-          rep = rep-frame t _ m m′ (s .kept) (λ z u. off z (omega arith)) (P .rep);
-          spare = (s .at, spares-frame ps m m′ (λ z u. node-kept _ m m′ (s .kept) z (off z (omega arith))) (P .spare));
-          once = λ z. elim (ℕ-discrete z p) [
-            | yes e ↦ rw e (omega (arith, free, same-self p, below-is p n lp))
-            | no d ↦ omega (arith, P .once z, same-other z p d)
-          ];
-          past = past-then (P .past) (past-kept _ m m′ n (s .kept) (λ z l. same-other z p (omega arith)));
-        }
+    module _ (p : ℕ) (lo : 1 ≤ p) (hi : p < n) where
+      pub give-in : Within m (2 * p) × Within m (2 * p + 1)
+      give-in = (omega (arith, P .small, P .long), omega (arith, P .small, P .long))
+
+      pub part-give : (m′ : List ℕ) (k : ℕ) → k ≡ length ps → getD h 7 0 ≡ first ps → uses p t + among p ps ≡ 0 → Gives p k m m′ → Part m0 m′ n (set h 7 p) t (p ∷ ps)
+      unfolding Spares
+      part-give m′ k ek e7 free g =
+          let M = store m 7 p in
+          let Q = part-put 7 p (omega arith) (omega (arith, P .small)) in
+          let w : word m 7 ≡ first ps = P .heads 7 (omega arith) ∙ e7 in
+          let off : (z : ℕ) → 1 ≤ uses z t + among z ps → same z p ≡ 0 = λ z u. same-other z p (λ e. omega (arith, ap (λ (y : ℕ). uses y t + among y ps) e)) in
+          let root : same (1 / 2) p ≡ 0 = same-other 0 p (omega arith) in
+          record {
+            small = P .small;
+            long = omega (arith, Q .long, g .kept .len);
+            wide = Q .wide;
+            heads = λ j l. word-kept _ M m′ (g .kept) j l ∙ Q .heads j l;
+            stands = stands-frame (g .kept) root (λ z u. off (z / 2) (omega arith)) (Q .stands);
+            spare = (rw (ek, w) at (g .left), g .right, spares-frame ps M m′ (λ z u. node-kept _ M m′ (g .kept) z (off (z / 2) (omega arith))) (Q .spare));
+            once = λ z. elim (ℕ-discrete z p) [
+              | yes e ↦ rw e (omega (arith, free, same-self p, below-is p n hi, same-other p 0 (omega arith)))
+              | no d ↦ omega (arith, P .once z, same-other z p d)
+            ];
+            past = past-then (Q .past) (past-kept _ M m′ n (g .kept) (λ z l. same-other (z / 2) p (omega arith)));
+          }
 
 -- ---- the delays, padded
 -- the delays are the first of the words that they are padded to
@@ -158,9 +213,9 @@ opened m s L =
     record {
       small = L .holds .small;
       long = L .holds .long;
-      wide = omega (arith, length-padded 18 (s .settings .delays));
+      wide = omega (arith, length-padded 20 (s .settings .delays));
       heads = L .holds .heads;
-      rep = L .holds .rep;
+      stands = L .holds .stands;
       spare = L .holds .spare;
       once = λ z. omega (arith, L .placed .all z);
       past = past-none _ m;
@@ -169,6 +224,6 @@ opened m s L =
 pub closed : (m0 m : List ℕ) (s : State) → length (s .settings .delays) ≤ 16 → Part m0 m (places (s .settings .room)) (header s) (s .tree) (s .spares) → After m0 m s
 closed m0 m s lines P =
     record {
-      holds = record { small = P .small; lines = lines; long = P .long; heads = P .heads; rep = P .rep; spare = P .spare };
+      holds = record { small = P .small; lines = lines; long = P .long; heads = P .heads; stands = P .stands; spare = P .spare };
       past = P .past;
     }

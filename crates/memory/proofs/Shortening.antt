@@ -1,15 +1,18 @@
 -- The steps that leave every place where it is: another end, another floor. And what any step finds in a link.
-use mathlib.Core.Path.{_≡_, refl, sym, _∙_}
+use mathlib.Core.Path.{_≡_}
 use mathlib.Core.List.{List}
-use Prim.Native.Nat.{ℕ, _^_, _≤_, _<_}
+use Prim.Native.Nat.{ℕ, _+_, _/_, _^_, _≤_, _<_}
 use native.Mathlib.Omega.{arith}
 use Rattle.numbers.specs.Words.{word, store}
-use Rattle.shape.specs.Tree.{place, size}
+use Rattle.shape.specs.Tree.{same, size, uses}
 use Rattle.shape.specs.HeightLaws.{height-few}
-use Rattle.shape.specs.ChangeLaws.{leaf-uses}
+use Rattle.shape.specs.ChangeLaws.{weight-set}
 use Rattle.tracing.specs.Alone.{Sole, Alone}
 use Rattle.tracing.specs.Ways.{Partway}
-use Rattle.rising.specs.Changes.{Sets}
+use Rattle.rising.specs.Changes.{ending, Becomes}
+use Rattle.tree.proofs.Starting.{begun-ending}
+use Rattle.node.specs.Layout.{rootSeat}
+use Rattle.node.proofs.Frames.{kept-less}
 use Rattle.tracing.proofs.Paths.{path-partway}
 use Rattle.state.specs.Sound.{mostKey}
 use Rattle.state.specs.State.{State, places, shorten, with-floor}
@@ -23,44 +26,40 @@ module _ (m : List ℕ) (s : State) (L : Link m s) where
   pub few : size (s .tree) ≤ 32768
   few = omega (arith, L .placed .many, L .holds .small)
 
-  -- the words of the room, of the root and of the voids kept
+  -- the words of the room and of the voids kept
   pub room-is : word m 0 ≡ s .settings .room
   room-is = L .holds .heads 0 (omega arith)
-
-  pub root-is : word m 5 ≡ place (s .tree)
-  root-is = L .holds .heads 5 (omega arith)
 
   pub kept-is : word m 6 ≡ size (s .tree)
   kept-is = L .holds .heads 6 (omega arith)
 
-  module _ (t : ℕ) (et : t ≡ word m 5) where
-    pub sole : Sole m t (s .tree)
-    sole =
-        record {
-          stands = record { rep = L .holds .rep; at = sym (et ∙ root-is) };
-          once = λ z. omega (arith, L .placed .all z, below-most z (places (s .settings .room)));
-          even = L .even;
-          low = height-few (s .tree) (L .even) few;
-        }
+  pub sole : Sole m rootSeat (s .tree)
+  sole =
+      record {
+        stands = L .holds .stands;
+        once = λ z. omega (arith, L .placed .all z, below-most z (places (s .settings .room)));
+        even = L .even;
+        low = height-few (s .tree) (L .even) few;
+      }
 
-    pub alone : Alone m t
-    alone = (s .tree, sole)
+  pub alone : Alone m rootSeat
+  alone = (s .tree, sole)
 
-    pub shortened : (m′ : List ℕ) (k e : ℕ) → Sets t k e m m′ → After m m′ (shorten s k e)
-    unfolding shorten
-    shortened m′ k e f =
-        let u = f (s .tree) sole in
-        let n = places (s .settings .room) in
-        let P = part-tree m m n _ (s .tree) (s .spares) (opened m s L) _ m′ _ (u .kept) (u .stands .rep)
-        (λ z. omega (arith, L .placed .all z, leaf-uses z k (s .tree))) (λ z. omega (arith, L .placed .all z, u .many z)) in
-        closed m m′ (shorten s k e) (L .holds .lines) (rw (u .stands .at ∙ et ∙ root-is, size-set k e (s .tree)) P)
+  pub shortened : (m′ : List ℕ) (k e : ℕ) → Becomes (ending k e) rootSeat m m′ → After m m′ (shorten s k e)
+  unfolding shorten
+  shortened m′ k e f =
+      let u = f (s .tree) (begun-ending k e sole) in
+      let n = places (s .settings .room) in
+      let P = part-tree m m n _ (s .tree) (s .spares) (opened m s L) (λ y. uses y (s .tree)) m′ _ (kept-less (u .kept) (λ z i. omega (arith, i))) (u .stands)
+      (λ z. omega (arith, L .placed .all z)) (λ z. omega (arith, L .placed .all z, weight-set 0 (same z) k e (s .tree))) in
+      closed m m′ (shorten s k e) (L .holds .lines) (rw (size-set k e (s .tree)) P)
 
   -- the way noted is the beginning of the key's
-  pub partway : (ws : List ℕ) (d k : ℕ) → Noting m s ws d k → Partway m (word m 5) k d ws
+  pub partway : (ws : List ℕ) (d k : ℕ) → Noting m s ws d k → Partway m rootSeat k d ws
   partway ws d k N =
       let P = N .pointed in
       let r = P .reaches in
-      path-partway m (word m 5) d ws (r .down) (r .sub) (P .place) k (N .end) (r .stands) (r .inside) (P .long) (s .tree) 0 mostKey (sole (word m 5) refl) (N .ordered)
+      path-partway m rootSeat d ws (r .down) (r .sub) k (N .end) (r .stands) (r .inside) (P .long) (s .tree) 0 mostKey sole (N .ordered)
 
   pub refloored : (m′ : List ℕ) (moment : ℕ) → moment < 2 ^ 64 → m′ ≡ store m 4 moment → After m m′ (with-floor s moment)
   refloored m′ moment l e =

@@ -1,11 +1,10 @@
--- What a whole link gives to the crates above: its places, its words, its root, and that one step may follow another.
-use mathlib.Core.Path.{_≡_, sym, _∙_}
+-- What a whole link gives to the crates above: its places, its words, and that one step may follow another.
+use mathlib.Core.Path.{_≡_}
 use mathlib.Core.List.{List}
 use Prim.Native.Nat.{ℕ, _≤_}
 use native.Mathlib.Omega.{arith}
 use Rattle.numbers.specs.Words.{word}
 use Rattle.rule.specs.Moments.{lastMoment}
-use Rattle.node.specs.Rep.{Stands}
 use Rattle.state.specs.State.{State}
 use Rattle.state.specs.Sound.{Sound}
 use Rattle.memory.specs.Holds.{Holds, Whole, After}
@@ -14,10 +13,6 @@ use Rattle.memory.proofs.Parts.{past-none, past-then}
 
 pub whole-link : {m : List ℕ} {s : State} → Sound s → Holds m s → Link m s
 whole-link W H = record { placed = record { all = W .all; many = W .many }; even = W .balanced; holds = H }
-
--- the tree stands where the root's word says
-pub root-stands : {m : List ℕ} {s : State} → Holds m s → (p : ℕ) → p ≡ word m 5 → Stands m p (s .tree)
-root-stands H p e = record { rep = H .rep; at = sym (e ∙ H .heads 5 (omega arith)) }
 
 pub floor-is : {m : List ℕ} {s : State} → Holds m s → word m 4 ≡ s .floor
 floor-is H = H .heads 4 (omega arith)

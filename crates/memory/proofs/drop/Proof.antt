@@ -5,21 +5,17 @@ use Rattle.memory.proofs.Dropping.{remove-pre, removal}
 use Rattle.memory.proofs.drop.Statement.{statement}
 use Rattle.memory.proofs.drop.Tie as tie
 
-get-requires : tie.Need-get-requires
-get-requires c κs = search needs
-
 remove-requires : tie.Need-remove-requires
-remove-requires c κs = remove-pre _ _ (c .before .before .before .before .pre .1) _ (c .before .get .ensures) (c .before .before .before .before .pre .2)
+remove-requires c κs = remove-pre _ _ (c .before .before .pre .1) (c .before .before .pre .2)
 
 give-back-requires : tie.Need-give-back-requires
-give-back-requires c κs = (_, _, _, removal _ _ (c .before .before .before .before .before .before .before .before .pre .1) _ (c .before .before .before .before .before .get .ensures) _ _ _ (c .before .before .before .before .before .before .before .before .pre .2) (c .before .before .before .remove .ensures))
+give-back-requires c κs = (_, _, _, removal _ _ (c .before .before .before .before .before .before .pre .1) _ _ _ (c .before .before .before .before .before .before .pre .2) (c .before .before .before .remove .ensures))
 
 same-length : tie.Need-same-length
 same-length c = search needs
 
 returns : tie.Need-returns
-returns c = λ s L. c .before .before .give-back .ensures _ s _ (removal _ s L _ (c .before .before .before .before .before .before .before .before .get .ensures) _ _ _ (omega (arith, c .before .before .before .before .before .before .before .before .before .before .before .pre .2, kept-is _ _ (c .before .before .before .before .before .before .before .before .before .before .before .pre .1), kept-is _ s L)) (c .before .before .before .before .before .before .remove .ensures))
+returns c = λ s L. c .before .before .give-back .ensures _ s _ (removal _ s L _ _ _ (omega (arith, c .before .before .before .before .before .before .before .before .before .pre .2, kept-is _ _ (c .before .before .before .before .before .before .before .before .before .pre .1), kept-is _ s L)) (c .before .before .before .before .before .before .remove .ensures))
 
 pub drop-spec : {M : Type 1} → statement M
-drop-spec =
-    tie.close (tie.spec get-requires remove-requires give-back-requires same-length returns)
+drop-spec = tie.close (tie.spec remove-requires give-back-requires same-length returns)

@@ -6,7 +6,7 @@ use Rattle.memory.proofs.refloor.Statement.{statement}
 use Rattle.memory.proofs.refloor.Tie as tie
 
 put-requires : tie.Need-put-requires
-put-requires c κs = omega (arith, c .before .before .pre .1 .holds .long)
+put-requires c κs = search needs
 
 same-length : tie.Need-same-length
 same-length c = search needs
