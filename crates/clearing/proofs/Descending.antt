@@ -2,113 +2,145 @@
 use mathlib.Core.Path.{_≡_, refl, sym, ap, subst, _∙_}
 use mathlib.Core.Bool.{true, false}
 use mathlib.Core.List.{List, _++_}
-use Prim.Native.Nat.{ℕ, _+_, _≤_, _<_}
+use Prim.Native.Nat.{ℕ, _+_, _*_, _≤_, _<_}
 use native.Mathlib.Omega.{arith}
 use lib.ListN.{length}
-use Rattle.numbers.specs.Words.{word, store}
-use Rattle.shape.specs.Tree.{Tree, leaf, node, place, height, low}
+use Rattle.numbers.specs.Words.{word}
+use Rattle.shape.specs.Tree.{Tree, leaf, node, height, low}
 use Rattle.shape.specs.Clear.{freed}
 use Rattle.node.specs.declared.Node.{Node}
-use Rattle.node.specs.Layout.{Within, nodeAt, Saved}
-use Rattle.node.specs.Rep.{Stands, nodeOf}
+use Rattle.node.specs.Layout.{Within, nodeAt, Copied}
+use Rattle.node.specs.Rep.{nodeOf}
 use Rattle.node.proofs.Reps.{seen, within, tall}
+use Rattle.node.proofs.Seats.{small-place}
 use Rattle.turning.specs.Turns.{Both}
 use Rattle.joining.specs.Joins.{Joins}
-use Rattle.memory.specs.Holds.{spareNode}
+use Rattle.memory.specs.Holds.{Gives}
 use Rattle.clearing.specs.declared.Left.{Left}
 use Rattle.clearing.specs.Clears.{Site, Cleaned, Clearable, Cleans}
-use Rattle.clearing.proofs.Cleaning.{untouched, leaf-pre, leaf-gone, site-left, site-right, node-pre, left-side-gone, right-side-gone, both-left, joined}
+use Rattle.clearing.proofs.Cleaning.{untouched, leaf-gone, site-left, site-right, seat-in, few-2, node-pre, left-side-gone, right-side-gone, both-left, joined}
 
-module _ (b : ℕ) (m : List ℕ) (p k : ℕ) where
-  pub here : Clearable m p k → Within m p
+module _ (b : ℕ) (m : List ℕ) (s k : ℕ) where
+  pub here : Clearable m s k → Within m s
   here c = within (c .4 .stands)
 
-  module _ (n0 : Node) (en : n0 ≡ nodeAt m p) where
-    reads : {n : ℕ} {h : List ℕ} {t : Tree} {ps : List ℕ} → Site n h m p t ps → n0 ≡ nodeOf t
+  module _ (n0 : Node) (en : n0 ≡ nodeAt m s) where
+    reads : {n : ℕ} {h : List ℕ} {t : Tree} {ps : List ℕ} → Site n h m s t ps → n0 ≡ nodeOf t
     reads S = en ∙ seen (S .stands)
 
-    low-is : {n : ℕ} {h : List ℕ} {t : Tree} {ps : List ℕ} → Site n h m p t ps → n0 .low ≡ low t
+    low-is : {n : ℕ} {h : List ℕ} {t : Tree} {ps : List ℕ} → Site n h m s t ps → n0 .low ≡ low t
     low-is S = ap (λ (x : Node). x .low) (reads S)
 
-    high-is : {n : ℕ} {h : List ℕ} {t : Tree} {ps : List ℕ} → Site n h m p t ps → n0 .height ≡ height t
+    high-is : {n : ℕ} {h : List ℕ} {t : Tree} {ps : List ℕ} → Site n h m s t ps → n0 .height ≡ height t
     high-is S = ap (λ (x : Node). x .height) (reads S)
 
+    place-is : {n : ℕ} {h : List ℕ} {x : ℕ} {l r : Tree} {ps : List ℕ} → Site n h m s (node x l r) ps → x ≡ n0 .place
+    place-is S = sym (ap (λ (x : Node). x .place) (reads S))
+
     -- ---- a tree that stays
-    pub stayed : b ≤ n0 .low → Cleans b p k (record { gone = false; root = p; spare = k }) m m
-    stayed l n h t ps S e = untouched b n h m p ps t S (omega (arith, l, low-is S)) k e
+    pub stayed : b ≤ n0 .low → Cleans b s k (record { gone = false; spare = k }) m m
+    stayed l n h t ps S e = untouched b n h m s ps t S (omega (arith, l, low-is S)) k e
 
     -- ---- a leaf that goes
-    pub leaf-ask : n0 .height ≡ 0 → Clearable m p k → (Within m p) × (k < 65536) × (word m 7 < 65536)
-    leaf-ask z (n, h, leaf q j e, ps, S, ek) = leaf-pre b n h m p ps q j e S k ek
-    leaf-ask z (n, h, node x l r, ps, S, ek) = absurd (omega (arith, z, high-is S))
+    pub leaf-went : n0 .low < b → n0 .height ≡ 0 → Cleans b s k (record { gone = true; spare = k }) m m
+    leaf-went l z n h (leaf j e) ps S ek = leaf-gone b n h m s ps j e S (omega (arith, l, low-is S)) k ek
+    leaf-went l z n h (node x c d) ps S ek = absurd (omega (arith, z, high-is S))
 
-    pub leaf-went : n0 .low < b → n0 .height ≡ 0 → (m′ : List ℕ) → Saved p (spareNode k (word m 7)) (store m 7 p) m′ → Cleans b p k (record { gone = true; root = 0; spare = k + 1 }) m m′
-    leaf-went l z m′ s n h (leaf q j e) ps S ek = leaf-gone b n h m p ps q j e S (omega (arith, l, low-is S)) k ek m′ s
-    leaf-went l z m′ s n h (node x c d) ps S ek = absurd (omega (arith, z, high-is S))
+    pub place-low : Clearable m s k → n0 .place < 4294967296
+    place-low c = omega (arith, small-place m s n0 en (c .4 .stands))
 
-    -- ---- a node
-    module _ (inner : n0 .height ≡ 0 → ⊥) where
-      pub down-left : Clearable m p k → Clearable m (n0 .left) k × (nodeAt m (n0 .left) .height < nodeAt m p .height)
-      down-left (n, h, leaf q j e, ps, S, ek) = absurd (inner (high-is S))
+    -- ---- a node, its children at u and v
+    module _ (inner : n0 .height ≡ 0 → ⊥) (u v : ℕ) (eu : u ≡ 2 * n0 .place) (ev : v ≡ 2 * n0 .place + 1) where
+      u-is : {n : ℕ} {h : List ℕ} {x : ℕ} {l r : Tree} {ps : List ℕ} → Site n h m s (node x l r) ps → 2 * x ≡ u
+      u-is S = ap (λ (y : ℕ). 2 * y) (place-is S) ∙ sym eu
+
+      v-is : {n : ℕ} {h : List ℕ} {x : ℕ} {l r : Tree} {ps : List ℕ} → Site n h m s (node x l r) ps → 2 * x + 1 ≡ v
+      v-is S = ap (λ (y : ℕ). 2 * y + 1) (place-is S) ∙ sym ev
+
+      pub down-left : Clearable m s k → Clearable m u k × (nodeAt m u .height < nodeAt m s .height)
+      down-left (n, h, leaf j e, ps, S, ek) = absurd (inner (high-is S))
       down-left (n, h, node x l r, ps, S, ek) =
-          let T = site-left b n h m p ps x l r S in
-          let e : place l ≡ n0 .left = sym (ap (λ (y : Node). y .left) (reads S)) in
-          subst (λ q. Clearable m q k × (nodeAt m q .height < nodeAt m p .height)) e ((n, h, l, ps, T, ek), omega (arith, tall (T .stands), tall (S .stands)))
+          let T = site-left b n h m s ps x l r S in
+          subst (λ q. Clearable m q k × (nodeAt m q .height < nodeAt m s .height)) (u-is S) ((n, h, l, ps, T, ek), omega (arith, tall (T .stands), tall (S .stands)))
 
-      module _ (X : Left) (m1 : List ℕ) (cl : Cleans b (n0 .left) k X m m1) where
-        at-left : (n : ℕ) (h : List ℕ) (x : ℕ) (l r : Tree) (ps : List ℕ) → Site n h m p (node x l r) ps → k ≡ length ps → Cleaned b n h m l ps X m1
-        at-left n h x l r ps S ek = cl n h l ps (rw (sym (ap (λ (y : Node). y .left) (reads S))) at (site-left b n h m p ps x l r S)) ek
+      module _ (X : Left) (m1 : List ℕ) (cl : Cleans b u k X m m1) where
+        at-left : (n : ℕ) (h : List ℕ) (x : ℕ) (l r : Tree) (ps : List ℕ) → Site n h m s (node x l r) ps → k ≡ length ps → Cleaned b n h m (2 * x) l ps X m1
+        at-left n h x l r ps S ek =
+            let T = site-left b n h m s ps x l r S in
+            rw (← u-is S) at (cl n h l ps (rw (u-is S) at T) ek)
 
-        pub down-right : Clearable m p k → Clearable m1 (n0 .right) (X .spare) × (nodeAt m1 (n0 .right) .height < nodeAt m p .height)
-        down-right (n, h, leaf q j e, ps, S, ek) = absurd (inner (high-is S))
+        pub down-right : Clearable m s k → Clearable m1 v (X .spare) × (nodeAt m1 v .height < nodeAt m s .height)
+        down-right (n, h, leaf j e, ps, S, ek) = absurd (inner (high-is S))
         down-right (n, h, node x l r, ps, S, ek) =
             let L = at-left n h x l r ps S ek in
-            let T = site-right b n h m p ps x l r S X m1 L in
-            let e : place r ≡ n0 .right = sym (ap (λ (y : Node). y .right) (reads S)) in
-            subst (λ q. Clearable m1 q (X .spare) × (nodeAt m1 q .height < nodeAt m p .height)) e ((n, h, r, _, T, L .many), omega (arith, tall (T .stands), tall (S .stands)))
+            let T = site-right b n h m s ps x l r S X m1 L in
+            subst (λ q. Clearable m1 q (X .spare) × (nodeAt m1 q .height < nodeAt m s .height)) (v-is S) ((n, h, r, _, T, L .many), omega (arith, tall (T .stands), tall (S .stands)))
 
-        module _ (Y : Left) (m2 : List ℕ) (cr : Cleans b (n0 .right) (X .spare) Y m1 m2) where
-          at-right : (n : ℕ) (h : List ℕ) (x : ℕ) (l r : Tree) (ps : List ℕ) (S : Site n h m p (node x l r) ps) (ek : k ≡ length ps) → Cleaned b n h m1 r (freed b l ++ ps) Y m2
+        module _ (Y : Left) (m2 : List ℕ) (cr : Cleans b v (X .spare) Y m1 m2) where
+          at-right : (n : ℕ) (h : List ℕ) (x : ℕ) (l r : Tree) (ps : List ℕ) (S : Site n h m s (node x l r) ps) (ek : k ≡ length ps) → Cleaned b n h m1 (2 * x + 1) r (freed b l ++ ps) Y m2
           at-right n h x l r ps S ek =
               let L = at-left n h x l r ps S ek in
-              cr n h r _ (rw (sym (ap (λ (y : Node). y .right) (reads S))) at (site-right b n h m p ps x l r S X m1 L)) (L .many)
+              let T = site-right b n h m s ps x l r S X m1 L in
+              rw (← v-is S) at (cr n h r _ (rw (v-is S) at T) (L .many))
+
+          pub many-low : Clearable m s k → Y .spare < 65536
+          many-low (n, h, leaf j e, ps, S, ek) = absurd (inner (high-is S))
+          many-low (n, h, node x l r, ps, S, ek) =
+              let R = at-right n h x l r ps S ek in
+              omega (arith, R .many, few-2 b n h m s ps x l r S X m1 (at-left n h x l r ps S ek) Y m2 R)
+
+          -- the seats are inside still
+          pub seats-in : Clearable m s k → Within m2 s × Within m2 u × Within m2 v
+          seats-in (n, h, leaf j e, ps, S, ek) = absurd (inner (high-is S))
+          seats-in (n, h, node x l r, ps, S, ek) =
+              let L = at-left n h x l r ps S ek in
+              let R = at-right n h x l r ps S ek in
+              let e = R .ground .past .len ∙ L .ground .past .len in
+              let f = within (site-left b n h m s ps x l r S .stands) in
+              let g = within (site-right b n h m s ps x l r S X m1 L .stands) in (
+                seat-in b n h m s ps x l r S X m1 L Y m2 R,
+                rw (← u-is S) (omega (arith, e, f)),
+                rw (← v-is S) (omega (arith, R .ground .past .len, g)),
+              )
 
           module _ (late : n0 .low < b) where
-            pub give-ask : Clearable m p k → (Within m2 p) × (Y .spare < 65536) × (word m2 7 < 65536)
-            give-ask (n, h, leaf q j e, ps, S, ek) = absurd (inner (high-is S))
-            give-ask (n, h, node x l r, ps, S, ek) =
-                let L = at-left n h x l r ps S ek in
-                let R = at-right n h x l r ps S ek in
-                node-pre b n h m p ps x l r S X m1 L Y m2 R (omega (arith, late, low-is S)) (Y .spare) (R .many)
+            late-is : {n : ℕ} {h : List ℕ} {t : Tree} {ps : List ℕ} → Site n h m s t ps → low t < b
+            late-is S = omega (arith, late, low-is S)
 
-            pub left-went : X .gone ≡ true → (m3 : List ℕ) → Saved p (spareNode (Y .spare) (word m2 7)) (store m2 7 p) m3
-                → Cleans b p k (record { gone = Y .gone; root = Y .root; spare = Y .spare + 1 }) m m3
-            left-went g m3 s n h (leaf q j e) ps S ek = absurd (inner (high-is S))
-            left-went g m3 s n h (node x l r) ps S ek =
+            pub give-ask : (f : ℕ) (m3 : List ℕ) → Copied f s m2 m3 → Clearable m s k → Within m3 (2 * n0 .place) × Within m3 (2 * n0 .place + 1) × (word m3 7 < 65536)
+            give-ask f m3 o (n, h, leaf j e, ps, S, ek) = absurd (inner (high-is S))
+            give-ask f m3 o (n, h, node x l r, ps, S, ek) =
                 let L = at-left n h x l r ps S ek in
                 let R = at-right n h x l r ps S ek in
-                left-side-gone b n h m p ps x l r S X m1 L Y m2 R (omega (arith, late, low-is S)) g (Y .spare) (R .many) m3 s
+                rw (← place-is S) (node-pre b n h m s ps x l r S X m1 L Y m2 R (late-is S) f m3 o)
 
-            pub right-went : X .gone ≡ false → Y .gone ≡ true → (m3 : List ℕ) → Saved p (spareNode (Y .spare) (word m2 7)) (store m2 7 p) m3
-                → Cleans b p k (record { gone = false; root = X .root; spare = Y .spare + 1 }) m m3
-            right-went f g m3 s n h (leaf q j e) ps S ek = absurd (inner (high-is S))
-            right-went f g m3 s n h (node x l r) ps S ek =
+            pub left-went : X .gone ≡ true → (m3 : List ℕ) → Copied v s m2 m3 → (m4 : List ℕ) → Gives (n0 .place) (Y .spare) m3 m4
+                → Cleans b s k (record { gone = Y .gone; spare = Y .spare + 1 }) m m4
+            left-went g m3 o m4 gv n h (leaf j e) ps S ek = absurd (inner (high-is S))
+            left-went g m3 o m4 gv n h (node x l r) ps S ek =
                 let L = at-left n h x l r ps S ek in
                 let R = at-right n h x l r ps S ek in
-                right-side-gone b n h m p ps x l r S X m1 L Y m2 R (omega (arith, late, low-is S)) f g (Y .spare) (R .many) m3 s
+                left-side-gone b n h m s ps x l r S X m1 L Y m2 R (late-is S) g m3 (rw (← v-is S) at o) (Y .spare) (R .many) m4 (rw (← place-is S) at gv)
+
+            pub right-went : X .gone ≡ false → Y .gone ≡ true → (m3 : List ℕ) → Copied u s m2 m3 → (m4 : List ℕ) → Gives (n0 .place) (Y .spare) m3 m4
+                → Cleans b s k (record { gone = false; spare = Y .spare + 1 }) m m4
+            right-went f g m3 o m4 gv n h (leaf j e) ps S ek = absurd (inner (high-is S))
+            right-went f g m3 o m4 gv n h (node x l r) ps S ek =
+                let L = at-left n h x l r ps S ek in
+                let R = at-right n h x l r ps S ek in
+                right-side-gone b n h m s ps x l r S X m1 L Y m2 R (late-is S) f g m3 (rw (← u-is S) at o) (Y .spare) (R .many) m4 (rw (← place-is S) at gv)
 
             module _ (f : X .gone ≡ false) (g : Y .gone ≡ false) where
-              pub join-ask : Clearable m p k → Both m2 p (X .root) (Y .root)
-              join-ask (n, h, leaf q j e, ps, S, ek) = absurd (inner (high-is S))
+              pub join-ask : Clearable m s k → Both m2 s (n0 .place)
+              join-ask (n, h, leaf j e, ps, S, ek) = absurd (inner (high-is S))
               join-ask (n, h, node x l r, ps, S, ek) =
                   let L = at-left n h x l r ps S ek in
                   let R = at-right n h x l r ps S ek in
-                  (_, _, both-left b n h m p ps x l r S X m1 L Y m2 R (omega (arith, late, low-is S)) f g)
+                  rw (← place-is S) (_, _, both-left b n h m s ps x l r S X m1 L Y m2 R (late-is S) f g)
 
-              pub joined-up : (t : ℕ) (m3 : List ℕ) → Joins p (X .root) (Y .root) t m2 m3 → Cleans b p k (record { gone = false; root = t; spare = Y .spare }) m m3
-              joined-up t m3 J n h (leaf q j e) ps S ek = absurd (inner (high-is S))
-              joined-up t m3 J n h (node x l r) ps S ek =
+              pub joined-up : (m3 : List ℕ) → Joins s (n0 .place) m2 m3 → Cleans b s k (record { gone = false; spare = Y .spare }) m m3
+              joined-up m3 J n h (leaf j e) ps S ek = absurd (inner (high-is S))
+              joined-up m3 J n h (node x l r) ps S ek =
                   let L = at-left n h x l r ps S ek in
                   let R = at-right n h x l r ps S ek in
-                  let late′ : low (node x l r) < b = omega (arith, late, low-is S) in
-                  joined b n h m p ps x l r S X m1 L Y m2 R late′ f g t (Y .spare) m3 (R .many) (J _ _ (both-left b n h m p ps x l r S X m1 L Y m2 R late′ f g))
+                  joined b n h m s ps x l r S X m1 L Y m2 R (late-is S) f g (Y .spare) m3 (R .many) ((rw (← place-is S) at J) _ _ (both-left b n h m s ps x l r S X m1 L Y m2 R (late-is S) f g))

@@ -1,8 +1,7 @@
 -- A link cleared: from what the header says to the whole tree's clearing, and back to a header.
-use mathlib.Core.Path.{_≡_, refl, sym, ap, subst, _∙_}
-use mathlib.Core.Logic.{inl, inr}
+use mathlib.Core.Path.{_≡_, sym, subst, _∙_}
 use mathlib.Core.List.{List, _++_}
-use Prim.Native.Nat.{ℕ, _+_, _*_, _-_, _/_, _≤_, _<_}
+use Prim.Native.Nat.{ℕ, _+_, _*_, _-_, _≤_, _<_}
 use native.Mathlib.Decide.{ℕ-discrete}
 use native.Mathlib.Omega.{arith}
 use lib.ListN.{length, getD, set, length-set, length-append}
@@ -11,7 +10,7 @@ use Rattle.numbers.specs.Words.{word, store}
 use Rattle.shape.specs.Tree.{Tree, size}
 use Rattle.shape.specs.TreeLaws.{size-some}
 use Rattle.shape.specs.Clear.{rest, clear, freed}
-use Rattle.node.proofs.Reps.{within}
+use Rattle.node.specs.Layout.{rootSeat}
 use Rattle.node.specs.Rep.{Stands}
 use Rattle.state.specs.State.{State, first, places, with-tree}
 use Rattle.state.specs.Act.{cleared}
@@ -19,7 +18,7 @@ use Rattle.state.specs.ClearLaws.{Cleared, among-append, left-some}
 use Rattle.memory.specs.Header.{header, Heads}
 use Rattle.memory.specs.Holds.{After}
 use Rattle.memory.specs.Part.{Part}
-use Rattle.memory.proofs.Parts.{part-put, opened, closed}
+use Rattle.memory.proofs.Parts.{part-some, part-put, opened, closed}
 use Rattle.memory.proofs.Shortening.{sole}
 use Rattle.clearing.specs.declared.Left.{Left}
 use Rattle.clearing.specs.Clears.{Site, LeftAt, Cleaned, Clearable, Cleans, Lasting}
@@ -34,25 +33,26 @@ module _ (bound : ℕ) (m : List ℕ) (s : State) (L : Lasting bound m s) where
   P : Part m m n (header s) t (s .spares)
   P = opened m s (L .link)
 
-  pub long : 208 ≤ length m
-  long = omega (arith, P .long)
+  pub long : 224 ≤ length m
+  long = omega (arith, P .long, part-some m m n (header s) t (s .spares) P)
 
   words : (word m 6 ≡ size t) × (word m 0 ≡ s .settings .room)
   words = (P .heads 6 (omega arith), P .heads 0 (omega arith))
 
-  module _ (kept room root : ℕ) (ek : kept ≡ word m 6) (er : room ≡ word m 0) (et : root ≡ word m 5) where
+  module _ (kept room : ℕ) (ek : kept ≡ word m 6) (er : room ≡ word m 0) where
     pub counts : (kept ≤ room + 1) × (room ≤ 32768) × (1 ≤ kept)
     counts = omega (arith, L .link .placed .many, L .link .holds .small, words, size-some t)
 
     abbrev K : ℕ
-    K = 2 * (room + 1 - kept)
+    K = room + 1 - kept
 
     spare-is : K ≡ length (s .spares)
     spare-is = omega (arith, L .link .placed .many, words)
 
-    site : Site n (header s) m root t (s .spares)
+    site : Site n (header s) m rootSeat t (s .spares)
     site = record {
       ground = record {
+        some = part-some m m n (header s) t (s .spares) P;
         small = P .small;
         long = P .long;
         heads = λ j l d. P .heads j l;
@@ -60,22 +60,22 @@ module _ (bound : ℕ) (m : List ℕ) (s : State) (L : Lasting bound m s) where
         spare = P .spare;
         past = P .past;
       };
-      stands = sole m s (L .link) root et .stands;
+      stands = sole m s (L .link) .stands;
       even = L .link .even;
-      low = omega (arith, sole m s (L .link) root et .low);
+      low = omega (arith, sole m s (L .link) .low);
       once = λ z. omega (arith, L .link .placed .all z);
       few = omega (arith, L .link .placed .many, L .link .holds .small);
     }
 
-    pub clearable : Clearable m root K
+    pub clearable : Clearable m rootSeat K
     clearable = (n, header s, t, s .spares, site, spare-is)
 
-    module _ (x : Left) (m1 : List ℕ) (c : Cleans bound root K x m m1) where
-      C : Cleaned bound n (header s) m t (s .spares) x m1
+    module _ (x : Left) (m1 : List ℕ) (c : Cleans bound rootSeat K x m m1) where
+      C : Cleaned bound n (header s) m rootSeat t (s .spares) x m1
       C = c n (header s) t (s .spares) site spare-is
 
       U : (u : Tree) × (clear bound t ≡ rest u) × Cleared bound t (rest u) (freed bound t)
-      U = left-some bound t (L .place) (L .key) (L .end) (L .link .even) (L .inside) (L .late)
+      U = left-some bound t (L .key) (L .end) (L .link .even) (L .inside) (L .late)
 
       abbrev u : Tree
       u = U .0
@@ -83,18 +83,18 @@ module _ (bound : ℕ) (m : List ℕ) (s : State) (L : Lasting bound m s) where
       abbrev ps : List ℕ
       ps = freed bound t ++ s .spares
 
-      stands-u : Stands m1 (x .root) u
-      stands-u = subst (LeftAt m1 x) (U .1) (C .left) .1
+      stands-u : Stands m1 rootSeat u
+      stands-u = subst (LeftAt m1 rootSeat x) (U .1) (C .left) .1
 
       abbrev D : ℕ
-      D = (x .spare - K) / 2
+      D = x .spare - K
 
-      -- two places come free for each void that goes
+      -- a place comes free for each void that goes
       fewer : (K ≤ x .spare) × (D + size u ≡ size t)
       fewer = omega (arith, C .many, spare-is, U .2 .many, length-append (freed bound t) (s .spares))
 
-      pub in-range : (K ≤ x .spare) × (D ≤ kept) × (208 ≤ length m1)
-      in-range = omega (arith, fewer, words, ek, C .ground .long)
+      pub in-range : (K ≤ x .spare) × (D ≤ kept) × (224 ≤ length m1)
+      in-range = omega (arith, fewer, words, ek, C .ground .long, C .ground .some)
 
       heads-1 : Heads m1 (set (header s) 7 (first ps))
       heads-1 j l = elim (ℕ-discrete j 7) [
@@ -108,16 +108,15 @@ module _ (bound : ℕ) (m : List ℕ) (s : State) (L : Lasting bound m s) where
         long = C .ground .long;
         wide = length-set (header s) 7 (first ps) ∙ P .wide;
         heads = heads-1;
-        rep = stands-u .rep;
+        stands = stands-u;
         spare = C .ground .spare;
         once = λ z. omega (arith, P .once z, U .2 .places z, among-append z (freed bound t) (s .spares));
         past = C .ground .past;
       }
 
-      pub closed-up : (m2 m3 : List ℕ) → m2 ≡ store m1 5 (x .root) → m3 ≡ store m2 6 (kept - D) → (D + size ((cleared s bound) .tree) ≡ size t) × After m m3 (cleared s bound)
+      pub closed-up : (m2 : List ℕ) → m2 ≡ store m1 6 (kept - D) → (D + size ((cleared s bound) .tree) ≡ size t) × After m m2 (cleared s bound)
       unfolding cleared
-      closed-up m2 m3 e2 e3 =
-          let P2 = part-put m m1 n _ u ps part-1 5 (x .root) (omega arith) (omega (arith, within stands-u)) in
-          let P3 = part-put m (store m1 5 (x .root)) n _ u ps P2 6 (kept - D) (omega arith) (omega (arith, counts)) in
+      closed-up m2 e2 =
+          let P2 = part-put m m1 n _ u ps part-1 6 (kept - D) (omega arith) (omega (arith, counts)) in
           let sz : kept - D ≡ size u = omega (arith, fewer, words, ek) in
-          rw (U .1) (fewer .1, closed m m3 (with-tree s u ps) (L .link .holds .lines) (rw (e3, e2, stands-u .at, ← sz) P3))
+          rw (U .1) (fewer .1, closed m m2 (with-tree s u ps) (L .link .holds .lines) (rw (e2, ← sz) P2))
