@@ -36,21 +36,21 @@ module _ (x : Taken) (y : Seeking) (q : x ≡ takenOf (x .noted) y) where
     where
       go : (o : Sought) → x ≡ takenAt (x .noted) (y .count) o → x .count ≡ y .count
       go nowhere e = ap (λ (t : Taken). t .count) e
-      go (found i b p k e) u = ap (λ (t : Taken). t .count) u
+      go (found i b k e) u = ap (λ (t : Taken). t .count) u
 
   taken-none : x .found ≡ false → y .out ≡ nowhere
   taken-none h = go (y .out) q
     where
       go : (o : Sought) → x ≡ takenAt (x .noted) (y .count) o → o ≡ nowhere
       go nowhere e = refl
-      go (found i b p k e) u = absurd (false≢true (sym h ∙ ap (λ (t : Taken). t .found) u))
+      go (found i b k e) u = absurd (false≢true (sym h ∙ ap (λ (t : Taken). t .found) u))
 
-  taken-some : x .found ≡ true → (p : ℕ) × (y .out ≡ found (x .line) (x .start) p (x .key) (x .end))
+  taken-some : x .found ≡ true → y .out ≡ found (x .line) (x .start) (x .key) (x .end)
   taken-some h = go (y .out) q
     where
-      go : (o : Sought) → x ≡ takenAt (x .noted) (y .count) o → (p : ℕ) × (o ≡ found (x .line) (x .start) p (x .key) (x .end))
+      go : (o : Sought) → x ≡ takenAt (x .noted) (y .count) o → o ≡ found (x .line) (x .start) (x .key) (x .end)
       go nowhere e = absurd (false≢true (sym (ap (λ (t : Taken). t .found) e) ∙ h))
-      go (found i b p k e) u = (p, rw u)
+      go (found i b k e) u = rw u
 
 -- ---- what is done with what is found
 book-early : (code : ℕ) (s : State) (r l p : ℕ) → (code ≡ 0 → ⊥) → bookAs code s r l p ≡ refusal s code
@@ -61,7 +61,7 @@ module _ (s : State) (l : ℕ) (y : Seeking) where
   book-none : y .out ≡ nowhere → bookFound s l y ≡ record { reply = refused 7; count = y .count; after = s }
   book-none q = rw q
 
-  module _ (i b p k e : ℕ) (q : y .out ≡ found i b p k e) where
+  module _ (i b k e : ℕ) (q : y .out ≡ found i b k e) where
     book-full : overfull s k e b (free b (hold (s .settings) l)) ≡ true → bookFound s l y ≡ record { reply = refused 8; count = y .count; after = s }
     book-full full = rw (q, full)
 
@@ -113,7 +113,7 @@ module _ (m : List ℕ) (r l p floor lines code : ℕ) (ef : floor ≡ word m 4)
           books r l p a m m s _ (acts s H ∙ book-none s l (sought r l p s) (taken-none x (sought r l p s) (is s H) (not-true (x .found) u))) (rw (taken-count x (sought r l p s) (is s H)) at ea) (after-none H)
 
       module _ (u : not (x .found) ≡ false) where
-        at : (s : State) → Holds m s → (q : ℕ) × ((sought r l p s) .out ≡ found (x .line) (x .start) q (x .key) (x .end))
+        at : (s : State) → Holds m s → (sought r l p s) .out ≡ found (x .line) (x .start) (x .key) (x .end)
         at s H = taken-some x (sought r l p s) (is s H) (not-false (x .found) u)
 
         -- the channel is free by the last moment
@@ -121,8 +121,8 @@ module _ (m : List ℕ) (r l p floor lines code : ℕ) (ef : floor ≡ word m 4)
         unfolding sought
         free-low w =
             let s = w .0 in
-            let F : Found (s .tree) (hold (s .settings) l) (Fair (s .floor) (hold (s .settings) l)) (found (x .line) (x .start) (at s (w .2) .0) (x .key) (x .end)) =
-            rw (at s (w .2) .1) at (booking-found (s .settings) (s .floor) (s .tree) r l p (goes s (w .2))) in
+            let F : Found (s .tree) (hold (s .settings) l) (Fair (s .floor) (hold (s .settings) l)) (found (x .line) (x .start) (x .key) (x .end)) =
+            rw (at s (w .2)) at (booking-found (s .settings) (s .floor) (s .tree) r l p (goes s (w .2))) in
             omega (arith, F .0, eh (s .settings))
 
         pub finish-low : Whole m → x .start + l ≤ lastMoment
@@ -134,19 +134,16 @@ module _ (m : List ℕ) (r l p floor lines code : ℕ) (ef : floor ≡ word m 4)
 
           pub no-room : b ≡ true → (a : Answer) → numbersOf a ≡ seven (refused 8) (x .count) → (s : State) → Sound s → Holds m s → Books r l p a m m s
           no-room v a ea s W H =
-              let i = at s H in
-              books r l p a m m s _ (acts s H ∙ book-full s l (sought r l p s) (x .line) (x .start) (i .0) (x .key) (x .end) (i .1) (full-is s H ∙ v))
+              books r l p a m m s _ (acts s H ∙ book-full s l (sought r l p s) (x .line) (x .start) (x .key) (x .end) (at s H) (full-is s H ∙ v))
               (rw (taken-count x (sought r l p s) (is s H)) at ea) (after-none H)
 
           module _ (v : b ≡ false) where
             splitting : (s : State) → Sound s → Holds m s → Splitting s (x .key) (x .end) (x .start) (x .start + h)
             unfolding sought
             splitting s W H =
-                let i = at s H in
-                let R = split-room s W r l p (x .line) (x .start) (i .0) (x .key) (x .end) (goes s H) (i .1) (full-is s H ∙ v) in
+                let R = split-room s W r l p (x .line) (x .start) (x .key) (x .end) (goes s H) (at s H) (full-is s H ∙ v) in
                 rw (eh (s .settings)) (record {
                   sound = W;
-                  place = i .0;
                   inside = R .0;
                   room = R .2;
                 })
@@ -157,7 +154,6 @@ module _ (m : List ℕ) (r l p floor lines code : ℕ) (ef : floor ≡ word m 4)
             pub done : (c : ℕ) → c ≡ channelOf (x .key) → (m′ : List ℕ) → Splits (x .key) (x .end) (x .start) (x .start + h) m m′ → (s : State) → Sound s → Holds m s
                 → Books r l p (record { code = 0; channel = c; line = x .line; start = x .start; finish = x .start + l; count = x .count; dropped = 0 }) m m′ s
             done c k m′ f s W H =
-                let i = at s H in
-                books r l p _ m m′ s _ (acts s H ∙ book-some s l (sought r l p s) (x .line) (x .start) (i .0) (x .key) (x .end) (i .1) (full-is s H ∙ v))
+                books r l p _ m m′ s _ (acts s H ∙ book-some s l (sought r l p s) (x .line) (x .start) (x .key) (x .end) (at s H) (full-is s H ∙ v))
                 (rw (k, taken-count x (sought r l p s) (is s H)))
                 (rw (eh (s .settings)) at (f s (splitting s W H) H))

@@ -22,6 +22,7 @@ use Rattle.shape.specs.TreeLaws.{height-size}
 use Rattle.shape.specs.Visits.{Result, published}
 use Rattle.shape.specs.SearchLaws.{search-visits}
 use Rattle.shape.specs.HeightLaws.{height-few}
+use Rattle.node.specs.Layout.{rootSeat}
 use Rattle.node.specs.Rep.{Stands}
 use Rattle.node.specs.Paths.{longestWay}
 use Rattle.search.specs.declared.Found.{Found}
@@ -31,7 +32,6 @@ use Rattle.state.specs.Act.{Seeking, tryNext, seek}
 use Rattle.memory.specs.Holds.{Holds, Whole}
 use Rattle.memory.specs.Steps.{Pointed}
 use Rattle.memory.proofs.Parts.{padded-at}
-use Rattle.memory.proofs.Whole.{root-stands}
 use Rattle.seeking.specs.declared.Taken.{Taken}
 use Rattle.seeking.specs.Seek.{takenOf, Seeks, Points}
 
@@ -82,99 +82,98 @@ module _ (m : List ℕ) (r h p : ℕ) where
     pub rest : (s : State) → Holds m s → whole s ≡ after count (left s i)
     pub few : count ≤ (i + 1) * most
 
-  module _ (root : ℕ) (er : root ≡ word m 5) where
-    low : (w : Whole m) → height (w .0 .tree) < mostRoom
-    low w = omega (arith, height-size (w .0 .tree), w .1 .within, in-bounds (w .0 .settings) (w .1 .bounds) .room)
+  low : (w : Whole m) → height (w .0 .tree) < mostRoom
+  low w = omega (arith, height-size (w .0 .tree), w .1 .within, in-bounds (w .0 .settings) (w .1 .bounds) .room)
 
-    pub searchable : Whole m → (ws : List ℕ) → longestWay ≤ length ws → Searchable m root ws
-    searchable w ws l =
-        (w .0 .tree, root-stands (w .2) root er, height-few (w .0 .tree) (w .1 .balanced) (omega (arith, w .1 .within, in-bounds (w .0 .settings) (w .1 .bounds) .room)), l)
+  pub searchable : Whole m → (ws : List ℕ) → longestWay ≤ length ws → Searchable m rootSeat ws
+  searchable w ws l =
+      (w .0 .tree, w .2 .stands, height-few (w .0 .tree) (w .1 .balanced) (omega (arith, w .1 .within, in-bounds (w .0 .settings) (w .1 .bounds) .room)), l)
 
-    -- what was found is where the way leads
-    pub points : (ws : List ℕ) → longestWay ≤ length ws → (x : Found) → Notes m root ws x → x .found ≡ true → Pointed m ws (x .noted) (x .key) (x .end)
-    points ws l x g h = record { long = l; place = x .place; reaches = rw er at (g h) }
+  -- what was found is where the way leads
+  pub points : (ws : List ℕ) → longestWay ≤ length ws → (x : Found) → Notes m rootSeat ws x → x .found ≡ true → Pointed m ws (x .noted) (x .key) (x .end)
+  points ws l x g h = record { long = l; reaches = g h }
 
-    -- x is what is found at the start b
-    abbrev pub Finds : (b : ℕ) → Found → Type 0
-    Finds b x = (t : Tree) → Stands m root t → x ≡ foundOf (x .noted) (published b (b + h) t)
+  -- x is what is found at the start b
+  abbrev pub Finds : (b : ℕ) → Found → Type 0
+  Finds b x = (t : Tree) → Stands m rootSeat t → x ≡ foundOf (x .noted) (published b (b + h) t)
 
-    is : (s : State) → Holds m s → (b : ℕ) (x : Found) → Finds b x → x ≡ foundOf (x .noted) (published b (b + h) (s .tree))
-    is s H b x g = g (s .tree) (root-stands H root er)
+  is : (s : State) → Holds m s → (b : ℕ) (x : Found) → Finds b x → x ≡ foundOf (x .noted) (published b (b + h) (s .tree))
+  is s H b x g = g (s .tree) (H .stands)
 
-    few-visits : Whole m → (b : ℕ) (x : Found) → Finds b x → x .visits ≤ most
-    few-visits w b x g =
-        let t = w .0 .tree in
-        omega (arith, found-visits x (x .noted) (published b (b + h) t) (is (w .0) (w .2) b x g), search-visits b (b + h) t, low w)
+  few-visits : Whole m → (b : ℕ) (x : Found) → Finds b x → x .visits ≤ most
+  few-visits w b x g =
+      let t = w .0 .tree in
+      omega (arith, found-visits x (x .noted) (published b (b + h) t) (is (w .0) (w .2) b x g), search-visits b (b + h) t, low w)
 
-    -- the undelayed start
-    module _ (x : Found) (g : Finds r x) where
-      pub at-once : x .found ≡ true → (s : State) → Holds m s
-          → record { found = true; line = 0; start = r; key = x .key; end = x .end; count = x .visits; noted = x .noted } ≡ takenOf (x .noted) (whole s)
-      at-once y s H = simp zero-add at (fit x (published r (r + h) (s .tree)) (is s H r x g) 0 (record { line = 0; moment = r }) (left s 0) y)
+  -- the undelayed start
+  module _ (x : Found) (g : Finds r x) where
+    pub at-once : x .found ≡ true → (s : State) → Holds m s
+        → record { found = true; line = 0; start = r; key = x .key; end = x .end; count = x .visits; noted = x .noted } ≡ takenOf (x .noted) (whole s)
+    at-once y s H = simp zero-add at (fit x (published r (r + h) (s .tree)) (is s H r x g) 0 (record { line = 0; moment = r }) (left s 0) y)
 
-      pub going-first : Whole m → x .found ≡ false → Going (x .visits) 0
-      going-first w y =
-          record {
-            rest = λ s H. simp zero-add at (past x (published r (r + h) (s .tree)) (is s H r x g) 0 (record { line = 0; moment = r }) (left s 0) y);
-            few = omega (arith, few-visits w r x g);
-          }
+    pub going-first : Whole m → x .found ≡ false → Going (x .visits) 0
+    going-first w y =
+        record {
+          rest = λ s H. simp zero-add at (past x (published r (r + h) (s .tree)) (is s H r x g) 0 (record { line = 0; moment = r }) (left s 0) y);
+          few = omega (arith, few-visits w r x g);
+        }
 
-    -- a delay more
-    module _ (lines : ℕ) (el : lines ≡ word m 2) (count i : ℕ) (G : Going count i) where
-      lines-are : (s : State) → Holds m s → lines ≡ length (s .settings .delays)
-      lines-are s H = el ∙ H .heads 2 (omega arith)
+  -- a delay more
+  module _ (lines : ℕ) (el : lines ≡ word m 2) (count i : ℕ) (G : Going count i) where
+    lines-are : (s : State) → Holds m s → lines ≡ length (s .settings .delays)
+    lines-are s H = el ∙ H .heads 2 (omega arith)
 
-      -- none is left
-      pub nowhere-left : lines ≤ i → (s : State) → Holds m s → record { found = false; line = 0; start = 0; key = 0; end = 0; count = count; noted = 0 } ≡ takenOf 0 (whole s)
-      nowhere-left l s H =
-          let e : drop i (s .settings .delays) ≡ [] = drop-of-length-le (s .settings .delays) {i = i} (omega (arith, lines-are s H)) in
-          let z : whole s ≡ after count (seek (s .tree) h (delayed r h p i [])) = rw e at (G .rest s H) in
-          let n : count ≡ count + 0 = omega arith in
-          rw z (rw (← n))
+    -- none is left
+    pub nowhere-left : lines ≤ i → (s : State) → Holds m s → record { found = false; line = 0; start = 0; key = 0; end = 0; count = count; noted = 0 } ≡ takenOf 0 (whole s)
+    nowhere-left l s H =
+        let e : drop i (s .settings .delays) ≡ [] = drop-of-length-le (s .settings .delays) {i = i} (omega (arith, lines-are s H)) in
+        let z : whole s ≡ after count (seek (s .tree) h (delayed r h p i [])) = rw e at (G .rest s H) in
+        let n : count ≡ count + 0 = omega arith in
+        rw z (rw (← n))
 
-      module _ (w : Whole m) (li : i < lines) where
-        pub few-lines : i < mostLines
-        few-lines = omega (arith, w .2 .lines, lines-are (w .0) (w .2))
+    module _ (w : Whole m) (li : i < lines) where
+      pub few-lines : i < mostLines
+      few-lines = omega (arith, w .2 .lines, lines-are (w .0) (w .2))
 
-        module _ (d : ℕ) (ed : d ≡ word m (8 + i)) where
-          delay-is : (s : State) → Holds m s → d ≡ getD (s .settings .delays) i 0
-          delay-is s H = ed ∙ ap (word m) (eight i) ∙ H .heads (suc (suc (suc (suc (suc (suc (suc (suc i)))))))) (omega (arith, few-lines)) ∙ padded-at 18 (s .settings .delays) i (omega (arith, few-lines))
+      module _ (d : ℕ) (ed : d ≡ word m (8 + i)) where
+        delay-is : (s : State) → Holds m s → d ≡ getD (s .settings .delays) i 0
+        delay-is s H = ed ∙ ap (word m) (eight i) ∙ H .heads (suc (suc (suc (suc (suc (suc (suc (suc i)))))))) (omega (arith, few-lines)) ∙ padded-at 20 (s .settings .delays) i (omega (arith, few-lines))
 
-          pub short-delay : d ≤ longest
-          short-delay = omega (arith, delay-is (w .0) (w .2), rising-at 0 (w .0 .settings .delays) (in-bounds (w .0 .settings) (w .1 .bounds) .delays) i)
+        pub short-delay : d ≤ longest
+        short-delay = omega (arith, delay-is (w .0) (w .2), rising-at 0 (w .0 .settings .delays) (in-bounds (w .0 .settings) (w .1 .bounds) .delays) i)
 
-          next : (s : State) → Holds m s → whole s ≡ after count (seek (s .tree) h (delayed r h p i (d ∷ drop (suc i) (s .settings .delays))))
-          next s H =
-              let e : drop i (s .settings .delays) ≡ d ∷ drop (suc i) (s .settings .delays) =
-              drop-cons (s .settings .delays) i 0 (omega (arith, lines-are s H)) ∙ (rw (← delay-is s H)) in
-              rw e at (G .rest s H)
+        next : (s : State) → Holds m s → whole s ≡ after count (seek (s .tree) h (delayed r h p i (d ∷ drop (suc i) (s .settings .delays))))
+        next s H =
+            let e : drop i (s .settings .delays) ≡ d ∷ drop (suc i) (s .settings .delays) =
+            drop-cons (s .settings .delays) i 0 (omega (arith, lines-are s H)) ∙ (rw (← delay-is s H)) in
+            rw e at (G .rest s H)
 
-          pub going-skipped : (b : Bool) → b ≡ tried r h p i d → b ≡ false → Going count (i + 1)
-          going-skipped b eb y = let q : tried r h p i d ≡ false = sym eb ∙ y in record { rest = λ s H. rw add-one (rw q at (next s H)); few = omega (arith, G .few) }
+        pub going-skipped : (b : Bool) → b ≡ tried r h p i d → b ≡ false → Going count (i + 1)
+        going-skipped b eb y = let q : tried r h p i d ≡ false = sym eb ∙ y in record { rest = λ s H. rw add-one (rw q at (next s H)); few = omega (arith, G .few) }
 
-          module _ (b : Bool) (eb : b ≡ tried r h p i d) (y : b ≡ true) where
-            q : tried r h p i d ≡ true
-            q = sym eb ∙ y
+        module _ (b : Bool) (eb : b ≡ tried r h p i d) (y : b ≡ true) where
+          q : tried r h p i d ≡ true
+          q = sym eb ∙ y
 
-            pub early : r + d + h ≤ lastMoment
-            early = tried-low r h p i d q
+          pub early : r + d + h ≤ lastMoment
+          early = tried-low r h p i d q
 
-            module _ (x : Found) (g : Finds (r + d) x) where
-              here : (s : State) → Holds m s → let z = published (r + d) (r + d + h) (s .tree) in whole s ≡ after count (tryNext (record { line = suc i; moment = r + d }) (z .out) (z .visits) (left s (suc i)))
-              here s H = rw q at (next s H)
+          module _ (x : Found) (g : Finds (r + d) x) where
+            here : (s : State) → Holds m s → let z = published (r + d) (r + d + h) (s .tree) in whole s ≡ after count (tryNext (record { line = suc i; moment = r + d }) (z .out) (z .visits) (left s (suc i)))
+            here s H = rw q at (next s H)
 
-              pub few-more : (count ≤ (mostLines + 1) * most) × (x .visits ≤ most)
-              few-more = (omega (arith, G .few, few-lines), few-visits w (r + d) x g)
+            pub few-more : (count ≤ (mostLines + 1) * most) × (x .visits ≤ most)
+            few-more = (omega (arith, G .few, few-lines), few-visits w (r + d) x g)
 
-              pub taken-here : x .found ≡ true → (s : State) → Holds m s
-                  → record { found = true; line = i + 1; start = r + d; key = x .key; end = x .end; count = count + x .visits; noted = x .noted } ≡ takenOf (x .noted) (whole s)
-              taken-here z s H =
-                  rw (add-one, here s H) (
-                  fit x (published (r + d) (r + d + h) (s .tree)) (is s H (r + d) x g) count (record { line = suc i; moment = r + d }) (left s (suc i)) z)
+            pub taken-here : x .found ≡ true → (s : State) → Holds m s
+                → record { found = true; line = i + 1; start = r + d; key = x .key; end = x .end; count = count + x .visits; noted = x .noted } ≡ takenOf (x .noted) (whole s)
+            taken-here z s H =
+                rw (add-one, here s H) (
+                fit x (published (r + d) (r + d + h) (s .tree)) (is s H (r + d) x g) count (record { line = suc i; moment = r + d }) (left s (suc i)) z)
 
-              pub going-past : x .found ≡ false → Going (count + x .visits) (i + 1)
-              going-past z =
-                  record {
-                    rest = λ s H. rw add-one (here s H ∙ past x (published (r + d) (r + d + h) (s .tree)) (is s H (r + d) x g) count (record { line = suc i; moment = r + d }) (left s (suc i)) z);
-                    few = omega (arith, G .few, few-visits w (r + d) x g);
-                  }
+            pub going-past : x .found ≡ false → Going (count + x .visits) (i + 1)
+            going-past z =
+                record {
+                  rest = λ s H. rw add-one (here s H ∙ past x (published (r + d) (r + d + h) (s .tree)) (is s H (r + d) x g) count (record { line = suc i; moment = r + d }) (left s (suc i)) z);
+                  few = omega (arith, G .few, few-visits w (r + d) x g);
+                }

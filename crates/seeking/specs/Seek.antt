@@ -13,7 +13,7 @@ use Rattle.seeking.specs.declared.Taken.{Taken}
 -- the code's struct for what the search over the starts came to: zeros where nothing fits
 abbrev pub takenAt : (d count : ℕ) → Sought → Taken
 takenAt d n nowhere = record { found = false; line = 0; start = 0; key = 0; end = 0; count = n; noted = d }
-takenAt d n (found i r p k e) = record { found = true; line = i; start = r; key = k; end = e; count = n; noted = d }
+takenAt d n (found i r k e) = record { found = true; line = i; start = r; key = k; end = e; count = n; noted = d }
 
 abbrev pub takenOf : (d : ℕ) → Seeking → Taken
 takenOf d y = takenAt d (y .count) (y .out)

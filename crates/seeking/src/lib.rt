@@ -61,9 +61,8 @@ pub fn seek(mem: &[u8], arrival: u64, hold: u64, permitted: u64, way: &mut [u16]
     requires { ⌜ Whole (now mem) ⌝ }
     ensures { λ x. ⌜ Seeks arrival hold permitted x (now (mem .entry)) × Points (now (mem .entry)) (now (way .exit)) x ⌝ }
 {
-    let root = get(mem, memory::ROOT) as usize;
     let lines = get(mem, memory::LINES) as usize;
-    let at_once = search::search(mem, root, arrival, arrival + hold, way);
+    let at_once = search::search(mem, node::ROOT, arrival, arrival + hold, way);
     let mut count = at_once.visits;
     if at_once.found {
         return found_at(0, arrival, at_once, count);
@@ -73,7 +72,7 @@ pub fn seek(mem: &[u8], arrival: u64, hold: u64, permitted: u64, way: &mut [u16]
         let d = get(mem, memory::DELAYS + i);
         if ruling::starts::tried(arrival, hold, permitted, i as u64, d) {
             let start = arrival + d;
-            let x = search::search(mem, root, start, start + hold, way);
+            let x = search::search(mem, node::ROOT, start, start + hold, way);
             count += x.visits;
             if x.found {
                 return found_at(i as u64 + 1, start, x, count);

@@ -12,7 +12,7 @@ use Rattle.rule.specs.Key.{keyOf, startOf, channelOf}
 use Rattle.shape.specs.Tree.{size}
 use Rattle.shape.specs.TreeLaws.{size-some}
 use Rattle.shape.specs.EvenLaws.{even-set, even-insert}
-use Rattle.state.specs.State.{State, first, rest, shorten, add, drop}
+use Rattle.state.specs.State.{State, first, shorten, add, drop}
 use Rattle.state.specs.Act.{split}
 use Rattle.state.specs.Sound.{mostKey}
 use Rattle.state.specs.KeptLaws.{case-kept}
@@ -67,7 +67,7 @@ module _ (m : List ℕ) (k e r f : ℕ) (s : State) (S : Splitting s k e r f) (H
     unfolding shorten
     short =
         record {
-          placed = placed-shorten s 0 mostKey (S .sound .ordered) (S .sound .balanced) (link .placed) (S .place) k e r (S .inside);
+          placed = placed-shorten s 0 mostKey (S .sound .ordered) (S .sound .balanced) (link .placed) k e r (S .inside);
           even = even-set k r (s .tree) (S .sound .balanced);
           holds = g s link .holds;
         }
@@ -107,10 +107,10 @@ module _ (m : List ℕ) (k e r f : ℕ) (s : State) (S : Splitting s k e r f) (H
           after = A;
           linked = record {
             placed = placed-add s 0 mostKey (S .sound .ordered) (S .sound .balanced) (link .placed) K e (omega arith) (S .room .key z) (S .room .clear z) (S .room .spare);
-            even = even-insert K e (first (s .spares)) (first (rest (s .spares))) (s .tree) (S .sound .balanced);
+            even = even-insert K e (first (s .spares)) (s .tree) (S .sound .balanced);
             holds = A .holds;
           };
-          two = omega (arith, size-insert K e (first (s .spares)) (first (rest (s .spares))) (s .tree), size-some (s .tree));
+          two = omega (arith, size-insert K e (first (s .spares)) (s .tree), size-some (s .tree));
           same = refl;
           is = rw (y, z);
         }

@@ -12,11 +12,10 @@ use Rattle.state.specs.Room.{Room}
 use Rattle.state.specs.Sound.{Sound}
 use Rattle.memory.specs.Holds.{Holds, After}
 
--- a void that may be taken apart: one of a sound link, with places for its pieces
+-- a void that may be taken apart: one of a sound link, with room for its pieces
 pub record Splitting (s : State) (k e r f : ℕ) : Type 0 where
   pub sound : Sound s
-  pub place : ℕ
-  pub inside : In place k e (s .tree)
+  pub inside : In k e (s .tree)
   pub room : Room s k e r f
 
 abbrev pub Splittable : (k e r f : ℕ) → List ℕ → Type 0
