@@ -1,23 +1,20 @@
 -- The survey, a step at a time: what each of its answers says of the trees that it could have taken.
 use mathlib.Core.Path.{_≡_, refl, sym, ap, _∙_}
-use mathlib.Core.Bool.{Bool, true, false, false≢true}
+use mathlib.Core.Bool.{Bool, true, false}
 use mathlib.Core.List.{List}
 use Prim.Native.Nat.{ℕ, _+_, _*_, _-_, _<_, _≤_}
 use native.Mathlib.Decide.{decLt}
 use native.Mathlib.Omega.{arith}
-use lib.ListN.{getD, set}
-use Rattle.rule.specs.Key.{startOf, channelOf}
 use Rattle.shape.specs.Tree.{Tree, leaf, node, height, size, uses}
 use Rattle.shape.specs.TreeLaws.{size-some}
 use Rattle.shape.specs.PlaceLaws.{same-is, uses-place}
 use Rattle.node.specs.declared.Node.{Node}
-use Rattle.node.specs.Layout.{Within, nodeAt, leafNode, overNode}
+use Rattle.node.specs.Layout.{Within, nodeAt}
 use Rattle.node.specs.Rep.{nodeOf, Rep, Stands}
-use Rattle.state.specs.Sound.{Lawful}
 use Rattle.node.proofs.Reps.{heightOf, within, left-stands, right-stands, one-tree}
 use Rattle.node.proofs.Seats.{reads}
 use Rattle.survey.specs.declared.Progress.{Progress}
-use Rattle.inspect.specs.Inspect.{Single, Near, Joined, NextVoid, Leaf}
+use Rattle.inspect.specs.Inspect.{Joined, Leaf}
 use Rattle.inspect.proofs.Inspecting.{single-is, leaf-single, joined-is, over-joined}
 use Rattle.survey.specs.Survey.{next, run, Good, Taken, Surveyed}
 use Rattle.settled.proofs.Saying.{says-yes, says-no}
