@@ -12,20 +12,20 @@ use Rattle.state.specs.Sound.{Lawful}
 use Rattle.settled.proofs.Saying.{says-yes}
 use Rattle.inspect.specs.Inspect.{Single, Near, Joined, NextVoid, Leaf}
 
-fields : (k : Node) → k ≡ record { height = k .height; lo = k .lo; split = k .split; top = k .top; low = k .low; left = k .left; right = k .right }
+fields : (k : Node) → k ≡ record { height = k .height; lo = k .lo; top = k .top; low = k .low; place = k .place }
 fields k = refl
 
 pub single-is : (k : Node) → Single k → k ≡ leafNode (k .lo) (k .top)
-single-is k s = fields k ∙ (rw (s .height, s .split, s .low, s .left, s .right))
+single-is k s = fields k ∙ (rw (s .height, s .low, s .place))
 
 pub leaf-single : (k : Node) (i e : ℕ) → k ≡ leafNode i e → Single k
-leaf-single k i e h = rw h (record { height = refl; split = refl; low = refl; left = refl; right = refl })
+leaf-single k i e h = rw h (record { height = refl; low = refl; place = refl })
 
-pub joined-is : (k x y : Node) → Joined k x y → k ≡ overNode x y (k .left) (k .right)
-joined-is k x y j = fields k ∙ (rw (j .height, j .lo, j .split, j .top, j .low))
+pub joined-is : (k x y : Node) → Joined k x y → k ≡ overNode x y (k .place)
+joined-is k x y j = fields k ∙ (rw (j .height, j .lo, j .top, j .low))
 
-pub over-joined : (k x y : Node) (l r : ℕ) → k ≡ overNode x y l r → Near (x .height) (y .height) → Joined k x y
-over-joined k x y l r h j = rw h (record { height = refl; lo = refl; split = refl; top = refl; low = refl; near = j })
+pub over-joined : (k x y : Node) (q : ℕ) → k ≡ overNode x y q → Near (x .height) (y .height) → Joined k x y
+over-joined k x y q h j = rw h (record { height = refl; lo = refl; top = refl; low = refl; near = j })
 
 -- the answers of a leaf's test
 pub no-leaf : (c f a : ℕ) (x y : List ℕ) (k : Node) → (Single k × NextVoid c f a (getD x (channelOf (k .lo)) 0) (k .lo) (k .top) → ⊥) → Leaf c f a x y k false

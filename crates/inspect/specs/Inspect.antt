@@ -13,21 +13,18 @@ use Rattle.settled.specs.Says.{Says}
 -- n is a leaf's node
 pub record Single (n : Node) : Type 0 where
   pub height : n .height ≡ 0
-  pub split : n .split ≡ n .lo
   pub low : n .low ≡ n .top
-  pub left : n .left ≡ 0
-  pub right : n .right ≡ 0
+  pub place : n .place ≡ 0
 
 -- the heights of two children differ by at most 1
 pub record Near (i j : ℕ) : Type 0 where
   pub left : i ≤ j + 1
   pub right : j ≤ i + 1
 
--- n sums up x and y, whatever their places
+-- n sums up x and y, wherever they stand
 pub record Joined (n x y : Node) : Type 0 where
   pub height : n .height ≡ max (x .height) (y .height) + 1
   pub lo : n .lo ≡ x .lo
-  pub split : n .split ≡ y .lo
   pub top : n .top ≡ max (x .top) (y .top)
   pub low : n .low ≡ min (x .low) (y .low)
   pub near : Near (x .height) (y .height)

@@ -19,16 +19,10 @@ fn single(n: Node) -> bool
     if n.height != 0 {
         return false;
     }
-    if n.split != n.lo {
-        return false;
-    }
     if n.low != n.top {
         return false;
     }
-    if n.left != 0 {
-        return false;
-    }
-    if n.right != 0 {
+    if n.place != 0 {
         return false;
     }
     true
@@ -43,9 +37,6 @@ pub fn joined(n: Node, x: Node, y: Node) -> bool
         return false;
     }
     if n.lo != x.lo {
-        return false;
-    }
-    if n.split != y.lo {
         return false;
     }
     if n.top != larger(x.top, y.top) {

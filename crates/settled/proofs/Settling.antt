@@ -2,7 +2,7 @@
 use mathlib.Core.Path.{_≡_, refl, sym, ap, _∙_}
 use mathlib.Core.Bool.{Bool, true, false, false≢true}
 use mathlib.Core.List.{List, [], _∷_}
-use Prim.Native.Nat.{ℕ, zero, suc, _+_, _*_, _-_, _≤_, _<_}
+use Prim.Native.Nat.{ℕ, zero, suc, _+_, _-_, _≤_, _<_}
 use native.Mathlib.Omega.{arith}
 use lib.ListN.{length, getD}
 use Rattle.numbers.specs.Words.{word}
@@ -71,15 +71,19 @@ module _ (m : List ℕ) (r c l h f k : ℕ) (e0 : r ≡ word m 0) (e1 : c ≡ wo
   pub short : (n : ℕ) → n ≡ need r → length m < n → Settled m → ⊥
   short n en g s = omega (arith, s .long)
 
+  pub used : (w : ℕ) → w ≡ word m 5 → (w ≡ 0 → ⊥) → Settled m → ⊥
+  used w e5 g s = g (e5 ∙ s .unused)
+
   pub falling : (b : Bool) → b ≡ rising 0 (listed l m 8) → b ≡ false → Settled m → ⊥
   falling b g z s = let u : rising 0 (listed l m 8) ≡ true = rw e2 (s .delays) in false≢true (sym z ∙ (g ∙ u))
 
-  pub settles : (b q : Bool) → Bounded r c l h f k → (n : ℕ) → n ≡ need r → n ≤ length m → b ≡ rising 0 (listed l m 8) → b ≡ true
+  pub settles : (b q : Bool) → Bounded r c l h f k → (n : ℕ) → n ≡ need r → n ≤ length m → (w : ℕ) → w ≡ word m 5 → w ≡ 0 → b ≡ rising 0 (listed l m 8) → b ≡ true
       → Says (Zeros m (8 + l)) q → Says (Settled m) q
-  settles b q u n en v g z = says-map (Zeros m (8 + l)) (Settled m) q
+  settles b q u n en v w e5 o5 g z = says-map (Zeros m (8 + l)) (Settled m) q
       (λ o. record {
         bounded = rw (← e0, ← e1, ← e2, ← e3, ← e4, ← e6) u;
         long = omega arith;
+        unused = sym e5 ∙ o5;
         delays = rw (← e2) (sym g ∙ z);
         zeros = rw (← e2) o;
       })

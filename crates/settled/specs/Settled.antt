@@ -36,5 +36,6 @@ Zeros m a = (j : ℕ) → a ≤ j → j < headerWords → word m j ≡ 0
 pub record Settled (m : List ℕ) : Type 0 where
   pub bounded : Bounded (word m 0) (word m 1) (word m 2) (word m 3) (word m 4) (word m 6)
   pub long : need (word m 0) ≤ length m
+  pub unused : word m 5 ≡ 0
   pub delays : rising 0 (listed (word m 2) m 8) ≡ true
   pub zeros : Zeros m (8 + word m 2)

@@ -11,6 +11,9 @@ use ruling::bounds::MOST_CHANNELS;
 use ruling::bounds::MOST_LINES;
 use ruling::bounds::MOST_ROOM;
 
+// The word before the delays that is 0.
+const UNUSED: usize = 5;
+
 // Whether the header's numbers are in bounds.
 fn bounded(room: u64, channels: u64, lines: u64, leap: u64, floor: u64, kept: u64) -> bool
     ensures { λ b. ⌜ Says (Bounded room channels lines leap floor kept) b ⌝ }
@@ -50,7 +53,7 @@ fn bounded(room: u64, channels: u64, lines: u64, leap: u64, floor: u64, kept: u6
 
 // Whether the delays of so many lines rise strictly, from 1 to the longest.
 fn rises(mem: &[u8], lines: usize) -> bool
-    requires { ⌜ (208 ≤ length (now mem)) × (lines ≤ mostLines) ⌝ }
+    requires { ⌜ (224 ≤ length (now mem)) × (lines ≤ mostLines) ⌝ }
     ensures { λ b. ⌜ b ≡ rising 0 (listed lines (now (mem .entry)) 8) ⌝ }
 {
     let mut i: usize = 0;
@@ -66,9 +69,9 @@ fn rises(mem: &[u8], lines: usize) -> bool
     true
 }
 
-// Whether the words of the header from a place on are 0.
+// Whether the words of the header from one on are 0.
 fn zeros(mem: &[u8], from: usize) -> bool
-    requires { ⌜ (208 ≤ length (now mem)) × (from ≤ 26) ⌝ }
+    requires { ⌜ (224 ≤ length (now mem)) × (from ≤ 28) ⌝ }
     ensures { λ b. ⌜ Says (Zeros (now (mem .entry)) from) b ⌝ }
 {
     let mut i = from;
@@ -83,7 +86,7 @@ fn zeros(mem: &[u8], from: usize) -> bool
 
 // Whether the header is a whole link's, and the memory as long as its room needs.
 pub fn settled(mem: &[u8]) -> bool
-    requires { ⌜ 208 ≤ length (now mem) ⌝ }
+    requires { ⌜ 224 ≤ length (now mem) ⌝ }
     ensures { λ b. ⌜ Says (Settled (now (mem .entry))) b ⌝ }
 {
     let room = numbers::words::get(mem, memory::ROOM);
@@ -96,6 +99,9 @@ pub fn settled(mem: &[u8]) -> bool
         return false;
     }
     if mem.len() < memory::need(room) {
+        return false;
+    }
+    if numbers::words::get(mem, UNUSED) != 0 {
         return false;
     }
     if !rises(mem, lines as usize) {

@@ -1,5 +1,5 @@
 -- From what a survey of the root says to the tree of a whole link, and back.
-use mathlib.Core.Path.{_≡_, refl, sym, _∙_}
+use mathlib.Core.Path.{_≡_, refl}
 use mathlib.Core.Bool.{Bool}
 use mathlib.Core.List.{List}
 use Prim.Native.Nat.{ℕ, zero, suc, _+_, _*_, _-_, _≤_, _<_}
@@ -15,7 +15,8 @@ use Rattle.rule.specs.Height.{Allowed}
 use Rattle.shape.specs.Tree.{Tree, size}
 use Rattle.shape.specs.TreeLaws.{widen}
 use Rattle.shape.specs.HeightLaws.{height-allowed}
-use Rattle.node.proofs.Reps.{unique}
+use Rattle.node.specs.Layout.{rootSeat}
+use Rattle.node.proofs.Reps.{one-tree}
 use Rattle.state.specs.Sound.{mostKey}
 use Rattle.survey.specs.declared.Progress.{Progress}
 use Rattle.settled.specs.Says.{Says}
@@ -37,17 +38,16 @@ allowed-small k h a g = elim (case-le (a .whole) 12) [
   | inr y ↦ let u : 13 ≤ a .whole = omega arith in absurd (omega (arith, pow-mono u, a .log .low))
 ]
 
-module _ (m : List ℕ) (r c f root k h : ℕ) (e0 : r ≡ word m 0) (e1 : c ≡ word m 1) (e4 : f ≡ word m 4) (e5 : root ≡ word m 5) (e6 : k ≡ word m 6)
+module _ (m : List ℕ) (r c f k h : ℕ) (e0 : r ≡ word m 0) (e1 : c ≡ word m 1) (e4 : f ≡ word m 4) (e6 : k ≡ word m 6)
     (some : 1 ≤ k) (high : Allowed k h) (x y : List ℕ) (s : Progress) (n : c ≤ length x) (z : (d : ℕ) → getD x d 0 ≡ 0)
-    (v : Surveyed m (2 * r + 1) c f x y root (h + 1) 0 (2 * k - 1) s) where
-  taken : (t : Tree) → Treed m t → Taken m (2 * r + 1) c f x root (h + 1) 0 (2 * k - 1) t
+    (v : Surveyed m (r + 1) c f x y rootSeat (h + 1) 0 (2 * k - 1) s) where
+  taken : (t : Tree) → Treed m t → Taken m (r + 1) c f x rootSeat (h + 1) 0 (2 * k - 1) t
   taken t w = record {
-    rep = w .rep;
-    at = w .at ∙ sym e5;
+    stands = w .stands;
     inside = rw e0 (w .inside);
     low = omega (arith, height-allowed t (w .balanced) h (rw (w .many, ← e6) high));
     few = omega (arith, w .many);
-    good = rw (e1, e4) (apart-good (word m 1) (word m 4) 0 mostKey x t (omega arith) (w .ordered) (w .balanced) (w .lawful) (w .apart) (λ p i e j. omega (arith, z (channelOf i))));
+    good = rw (e1, e4) (apart-good (word m 1) (word m 4) 0 mostKey x t (omega arith) (w .ordered) (w .balanced) (w .lawful) (w .apart) (λ i e j. omega (arith, z (channelOf i))));
   }
 
   pub no-tree : s .next ≡ 0 → Planted m → ⊥
@@ -55,9 +55,7 @@ module _ (m : List ℕ) (r c f root k h : ℕ) (e0 : r ≡ word m 0) (e1 : c ≡
 
   -- the survey saw that tree
   saw : (found : s .next ≡ 0 → ⊥) → (t : Tree) → Treed m t → v .yes found .0 ≡ t
-  saw found t w =
-      let d = v .yes found in
-      unique m (d .0) t (d .1 .rep) (w .rep) (d .1 .at ∙ (e5 ∙ sym (w .at)))
+  saw found t w = one-tree (v .yes found .1 .stands) (w .stands)
 
   module _ (found : s .next ≡ 0 → ⊥) where
     pub no-many : (s .left ≡ 0 → ⊥) → Planted m → ⊥
@@ -78,8 +76,7 @@ module _ (m : List ℕ) (r c f root k h : ℕ) (e0 : r ≡ word m 0) (e1 : c ≡
         let all = good-lawful c f 0 x (d .0) g in (
           d .0,
           record {
-            rep = d .1 .rep;
-            at = d .1 .at ∙ e5;
+            stands = d .1 .stands;
             many = omega (arith, d .2 .left);
             inside = rw (← e0) (d .1 .inside);
             ordered = widen 0 (next (d .0)) 0 mostKey (d .0) (omega arith) (good-most c f 0 x (d .0) g) (good-ord c f 0 x (d .0) g);

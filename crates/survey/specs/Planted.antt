@@ -1,23 +1,23 @@
--- The tree of a whole link, where the header says that it stands: the second of the three parts that the check looks at.
+-- The tree of a whole link, at the root's seat: the second of the three parts that the check looks at.
 -- That no place is used twice is not said here: it follows from the three (whole/proofs/Wholeness.antt).
 use mathlib.Core.Path.{_≡_}
 use mathlib.Core.List.{List}
 use Prim.Native.Nat.{ℕ, _≤_, _<_}
 use Rattle.numbers.specs.Words.{word}
-use Rattle.shape.specs.Tree.{Tree, place, size, Balanced, Ord, All, uses}
-use Rattle.node.specs.Rep.{Rep}
+use Rattle.shape.specs.Tree.{Tree, size, Balanced, Ord, All, uses}
+use Rattle.node.specs.Layout.{rootSeat}
+use Rattle.node.specs.Rep.{Stands}
 use Rattle.state.specs.State.{places}
 use Rattle.state.specs.Sound.{Lawful, Apart, OpenEnd, mostKey}
 
--- a tree with the rules of code 2 stands where the header says, with as many leaves as it says
+-- a tree with the rules of code 2 stands there, with as many leaves as the header says
 pub record Treed (m : List ℕ) (t : Tree) : Type 0 where
-  pub rep : Rep m t
-  pub at : place t ≡ word m 5
+  pub stands : Stands m rootSeat t
   pub many : size t ≡ word m 6
   pub inside : (z : ℕ) → 1 ≤ uses z t → z < places (word m 0)
   pub ordered : Ord 0 mostKey t
   pub balanced : Balanced t
-  pub lawful : All (λ p k e. Lawful (word m 1) (word m 4) k e) t
+  pub lawful : All (λ k e. Lawful (word m 1) (word m 4) k e) t
   pub apart : Apart t
   pub openEnds : (c : ℕ) → c < word m 1 → OpenEnd t c
 

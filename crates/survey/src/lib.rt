@@ -17,29 +17,26 @@ pub struct Progress {
     pub left: u64,
 }
 
-// Surveys the tree at place p, of a height below the limit, with keys from `after` on.
+// Surveys the tree at a seat, of a height below the limit, with keys from `after` on.
 fn survey(
     mem: &[u8],
     ends: &mut [u64],
-    places: usize,
+    places: u64,
     channels: u64,
     floor: u64,
-    p: usize,
+    seat: usize,
     limit: u64,
     after: u64,
     budget: u64,
 ) -> Progress
-    requires { ⌜ Reach (now mem) (now ends) places channels floor ⌝ }
-    ensures { λ s. ⌜ Surveyed (now (mem .entry)) places channels floor (now (ends .entry)) (now (ends .exit)) p limit after budget s ⌝ }
+    requires { ⌜ Reach (now mem) (now ends) places channels floor seat ⌝ }
+    ensures { λ s. ⌜ Surveyed (now (mem .entry)) places channels floor (now (ends .entry)) (now (ends .exit)) seat limit after budget s ⌝ }
 {
     if budget == 0 {
         return Progress { next: 0, left: 0 };
     }
     let left = budget - 1;
-    if places <= p {
-        return Progress { next: 0, left };
-    }
-    let n = node::load(mem, p);
+    let n = node::load(mem, seat);
     let h = n.height;
     if limit <= h {
         return Progress { next: 0, left };
@@ -51,8 +48,14 @@ fn survey(
         let next = n.lo + 1;
         return Progress { next, left };
     }
-    let l = n.left as usize;
-    let r = n.right as usize;
+    if n.place == 0 {
+        return Progress { next: 0, left };
+    }
+    if places <= n.place {
+        return Progress { next: 0, left };
+    }
+    let l = node::near(true, n.place);
+    let r = node::far(true, n.place);
     let a = survey(mem, ends, places, channels, floor, l, h, after, left);
     if a.next == 0 {
         return a;
@@ -83,7 +86,7 @@ fn open_ends(ends: &[u64], channels: usize) -> bool
     true
 }
 
-// Whether the tree that the header names is a whole link's.
+// Whether the tree at the root's seat is a whole link's.
 pub fn tree(mem: &[u8]) -> bool
     requires { ⌜ Settled (now mem) ⌝ }
     ensures { λ b. ⌜ Says (Planted (now (mem .entry))) b ⌝ }
@@ -91,19 +94,17 @@ pub fn tree(mem: &[u8]) -> bool
     let room = numbers::words::get(mem, memory::ROOM);
     let channels = numbers::words::get(mem, memory::CHANNELS);
     let floor = numbers::words::get(mem, memory::FLOOR);
-    let root = numbers::words::get(mem, memory::ROOT) as usize;
     let kept = numbers::words::get(mem, memory::KEPT);
-    let places = (2 * room + 1) as usize;
     let limit = ruling::height::allowed(kept) + 1;
     // one for each channel that a link may have
     let mut ends = [0u64; ruling::bounds::MOST_CHANNELS as usize];
     let s = survey(
         mem,
         &mut ends,
-        places,
+        room + 1,
         channels,
         floor,
-        root,
+        node::ROOT,
         limit,
         0,
         2 * kept - 1,

@@ -2,7 +2,7 @@
 use mathlib.Core.Path.{_≡_, refl, sym, _∙_}
 use mathlib.Core.Logic.{inl, inr}
 use mathlib.Core.List.{List, [], _∷_}
-use Prim.Native.Nat.{ℕ, zero, suc, _+_, _*_, _≤_, _<_}
+use Prim.Native.Nat.{ℕ, zero, suc, _+_, _≤_, _<_}
 use native.Mathlib.Omega.{arith}
 use lib.ListN.{length}
 use Rattle.numbers.specs.Case.{case-lt, case-eq}
@@ -39,9 +39,9 @@ unfolding sum
 sum-none zero = refl
 sum-none (suc n) = omega (arith, sum-none n)
 
--- a tree has one node less than twice its leaves
-sum-uses : (t : Tree) (n : ℕ) → ((z : ℕ) → 1 ≤ uses z t → z < n) → sum (λ z. uses z t) n + 1 ≡ 2 * size t
-sum-uses (leaf p k e) n h = omega (arith, sum-one p n (h p (omega (arith, same-self p))))
+-- a tree has one place less than leaves
+sum-uses : (t : Tree) (n : ℕ) → ((z : ℕ) → 1 ≤ uses z t → z < n) → sum (λ z. uses z t) n + 1 ≡ size t
+sum-uses (leaf k e) n h = omega (arith, sum-none n)
 sum-uses (node p a b) n h =
     let x = sum-add (λ z. same z p + uses z a) (λ z. uses z b) (λ z. same z p + uses z a + uses z b) (λ z. refl) n in
     let y = sum-add (λ z. same z p) (λ z. uses z a) (λ z. same z p + uses z a) (λ z. refl) n in
@@ -68,14 +68,15 @@ full f h (suc n) e z l = elim (case-eq z n) [
   | inr y ↦ full f h n (omega (arith, sum-most f h n, h n)) z (omega (arith, y .0))
 ]
 
--- the places of a tree and of a list, none of them twice, are as many as there are: so each place is one of them
-pub covered : (t : Tree) (ps : List ℕ) (n : ℕ) → ((z : ℕ) → uses z t + among z ps ≤ below z n) → length ps + 2 * size t ≡ n + 1
-    → (z : ℕ) → uses z t + among z ps ≡ below z n
-covered t ps n h e z = elim (case-lt z n) [
+-- the root's place, those of a tree and of a list, none of them twice, are as many as there are: so each place is one of them
+pub covered : (t : Tree) (ps : List ℕ) (n : ℕ) → 0 < n → ((z : ℕ) → same z 0 + uses z t + among z ps ≤ below z n) → length ps + size t ≡ n
+    → (z : ℕ) → same z 0 + uses z t + among z ps ≡ below z n
+covered t ps n some h e z = elim (case-lt z n) [
   | inr y ↦ omega (arith, h z, below-out z n (y .0))
   | inl y ↦
-      let x = sum-add (λ z. uses z t) (λ z. among z ps) (λ z. uses z t + among z ps) (λ z. refl) n in
+      let x = sum-add (λ z. same z 0 + uses z t) (λ z. among z ps) (λ z. same z 0 + uses z t + among z ps) (λ z. refl) n in
+      let w = sum-add (λ z. same z 0) (λ z. uses z t) (λ z. same z 0 + uses z t) (λ z. refl) n in
       let u = sum-uses t n (λ z g. below-in z n (omega (arith, h z))) in
       let v = sum-among ps n (λ z g. below-in z n (omega (arith, h z))) in
-      full (λ z. uses z t + among z ps) (λ z. omega (arith, h z, below-most z n)) n (omega (arith, x, u, v)) z (y .0) ∙ sym (below-is z n (y .0))
+      full (λ z. same z 0 + uses z t + among z ps) (λ z. omega (arith, h z, below-most z n)) n (omega (arith, x, w, u, v, sum-one 0 n some)) z (y .0) ∙ sym (below-is z n (y .0))
 ]

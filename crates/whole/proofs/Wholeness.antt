@@ -1,4 +1,4 @@
--- A memory is a whole link exactly if its three parts are right: the header, the tree and the spare nodes.
+-- A memory is a whole link exactly if its three parts are right: the header, the tree and the spare places.
 -- That each place is used once follows: rising keys and the spare marks tell the places apart, and they are as many as there are.
 use mathlib.Core.Path.{_≡_, refl, sym, ap, _∙_}
 use mathlib.Core.List.{List}
@@ -8,13 +8,13 @@ use native.Mathlib.Omega.{arith}
 use lib.ListN.{length, getD}
 use Rattle.numbers.specs.Words.{word}
 use Rattle.rule.specs.SettingsLaws.{Bounds, in-bounds, bounds-in}
-use Rattle.shape.specs.Tree.{Tree, leaf, node, place, height, size, uses}
+use Rattle.shape.specs.Tree.{Tree, leaf, node, height, size, same, uses}
 use Rattle.shape.specs.TreeLaws.{size-some, height-size}
-use Rattle.shape.specs.PlaceLaws.{same-is}
-use Rattle.node.specs.Layout.{nodeAt}
-use Rattle.node.specs.Rep.{Rep}
-use Rattle.node.proofs.Reps.{heightOf}
-use Rattle.node.proofs.Once.{rep-once}
+use Rattle.shape.specs.PlaceLaws.{same-self, same-is, same-other, same-most}
+use Rattle.node.specs.Layout.{rootSeat, nodeAt}
+use Rattle.node.specs.Rep.{Stands}
+use Rattle.node.proofs.Reps.{tall, left-stands, right-stands, stands-apart}
+use Rattle.node.proofs.Once.{stands-once}
 use Rattle.state.specs.State.{State, first, places}
 use Rattle.state.specs.Sound.{Sound, mostKey, among, below}
 use Rattle.memory.specs.Header.{header, Heads}
@@ -22,7 +22,7 @@ use Rattle.memory.specs.Holds.{Holds, Whole}
 use Rattle.settled.specs.Settled.{listed, Settled}
 use Rattle.survey.specs.Planted.{Treed, Planted}
 use Rattle.whole.specs.Parts.{spareMany, Spared}
-use Rattle.memory.proofs.Parts.{below-is, below-in, padded-at}
+use Rattle.memory.proofs.Parts.{below-is, below-in, below-most, padded-at}
 use Rattle.whole.proofs.Counting.{covered}
 use Rattle.settled.proofs.Settling.{length-listed, listed-at, listed-is, get-past}
 use Rattle.whole.proofs.Threading.{sparesAt, length-spares, first-spare, threads-spares, spares-threads, marked, spare-once}
@@ -44,8 +44,8 @@ module _ (m : List ℕ) (s : State) (S : Sound s) (H : Holds m s) where
   word-floor : word m 4 ≡ s .floor
   word-floor = H .heads 4 (omega arith)
 
-  word-root : word m 5 ≡ place (s .tree)
-  word-root = H .heads 5 (omega arith)
+  word-unused : word m 5 ≡ 0
+  word-unused = H .heads 5 (omega arith)
 
   word-kept : word m 6 ≡ size (s .tree)
   word-kept = H .heads 6 (omega arith)
@@ -53,10 +53,10 @@ module _ (m : List ℕ) (s : State) (S : Sound s) (H : Holds m s) where
   word-spare : word m 7 ≡ first (s .spares)
   word-spare = H .heads 7 (omega arith)
 
-  word-delay : (i : ℕ) → i < 18 → word m (8 + i) ≡ getD (s .settings .delays) i 0
+  word-delay : (i : ℕ) → i < 20 → word m (8 + i) ≡ getD (s .settings .delays) i 0
   word-delay i h =
       let e : 8 + i ≡ suc (suc (suc (suc (suc (suc (suc (suc i))))))) = omega arith in
-      ap (word m) e ∙ H .heads (suc (suc (suc (suc (suc (suc (suc (suc i)))))))) (omega arith) ∙ padded-at 18 (s .settings .delays) i h
+      ap (word m) e ∙ H .heads (suc (suc (suc (suc (suc (suc (suc (suc i)))))))) (omega arith) ∙ padded-at 20 (s .settings .delays) i h
 
   is-settled : Settled m
   is-settled =
@@ -75,6 +75,7 @@ module _ (m : List ℕ) (s : State) (S : Sound s) (H : Holds m s) where
           most-voids = omega (arith, word-kept, word-room, S .within);
         };
         long = omega (arith, word-room, H .long);
+        unused = word-unused;
         delays = rw (word-lines, listed-is (s .settings .delays) m 8 (λ i h. word-delay i (omega (arith, b .lines)))) (b .delays);
         zeros = λ j g h.
             let e : 8 + (j - 8) ≡ j = omega arith in
@@ -83,8 +84,7 @@ module _ (m : List ℕ) (s : State) (S : Sound s) (H : Holds m s) where
 
   is-treed : Treed m (s .tree)
   is-treed = record {
-    rep = H .rep;
-    at = sym word-root;
+    stands = H .stands;
     many = sym word-kept;
     inside = λ z h. rw word-room (below-in z _ (omega (arith, S .all z)));
     ordered = S .ordered;
@@ -94,10 +94,15 @@ module _ (m : List ℕ) (s : State) (S : Sound s) (H : Holds m s) where
     openEnds = rw word-channels (S .openEnds);
   }
 
+  -- no spare place is the root's
+  spare-some : (z : ℕ) → 1 ≤ among z (s .spares) → 1 ≤ z
+  spare-some zero h = absurd (omega (arith, S .all 0, same-self 0, below-most 0 (places (s .settings .room))))
+  spare-some (suc z) h = omega arith
+
   is-spared : Spared m
   is-spared =
       let e : spareMany (word m 0) (word m 6) ≡ length (s .spares) = omega (arith, S .many, word-room, word-kept) in
-      rw (e, word-room, word-spare) (spares-threads (s .spares) m (places (s .settings .room)) (H .spare) (λ z h. below-in z _ (omega (arith, S .all z))))
+      rw (e, word-room, word-spare) (spares-threads (s .spares) m (places (s .settings .room)) (H .spare) (λ z h. (spare-some z h, below-in z _ (omega (arith, S .all z)))))
 
 pub whole-settled : (m : List ℕ) → Whole m → Settled m
 whole-settled m w = is-settled m (w .0) (w .1) (w .2)
@@ -109,15 +114,14 @@ pub whole-spared : (m : List ℕ) → Whole m → Spared m
 whole-spared m w = is-spared m (w .0) (w .1) (w .2)
 
 -- ---- from the parts to the whole
--- a place of a tree has a node that is no higher than the tree
-node-low : (m : List ℕ) (z : ℕ) (t : Tree) → Rep m t → 1 ≤ uses z t → nodeAt m z .height ≤ height t
-unfolding Rep
-node-low m z (leaf p k e) r h = omega (arith, ap heightOf (ap (nodeAt m) (same-is z p h) ∙ r .1))
-node-low m z (node p a b) r h = elim (decLt 0 (uses z a)) [
-  | yes y ↦ omega (arith, node-low m z a (r .2) y)
+-- at a place of a tree is a node that is lower than the tree
+node-low : (m : List ℕ) (z s : ℕ) (t : Tree) → Stands m s t → 1 ≤ uses z t → nodeAt m (2 * z) .height < height t
+node-low m z s (leaf k e) f h = absurd (omega arith)
+node-low m z s (node q a b) f h = elim (decLt 0 (uses z a)) [
+  | yes y ↦ omega (arith, node-low m z (2 * q) a (left-stands f) y)
   | no y ↦ elim (decLt 0 (uses z b)) [
-    | yes x ↦ omega (arith, node-low m z b (r .3) x)
-    | no x ↦ omega (arith, ap heightOf (ap (nodeAt m) (same-is z p (omega arith)) ∙ r .1))
+    | yes x ↦ omega (arith, node-low m z (2 * q + 1) b (right-stands f) x)
+    | no x ↦ omega (arith, ap (λ (i : ℕ). nodeAt m (2 * i) .height) (same-is z q (omega arith)), tall (left-stands f))
   ]
 ]
 
@@ -140,23 +144,30 @@ module _ (m : List ℕ) (t : Tree) (A : Settled m) (B : Treed m t) (C : Spared m
   abbrev ps : List ℕ
   ps = sparesAt k m (word m 7)
 
-  -- no place is used twice
-  few : (z : ℕ) → uses z t + among z ps ≤ below z n
+  -- no place is used twice, and none is the root's
+  few : (z : ℕ) → same z 0 + uses z t + among z ps ≤ below z n
   few z = elim (decLt 0 (uses z t)) [
     | yes y ↦
         let b = below-is z n (B .inside z y) in
+        let o = same-other z 0 (λ e. omega (arith, ap (λ (i : ℕ). uses i t) e, stands-apart t m rootSeat (B .stands))) in
         elim (decLt 0 (among z ps)) [
-          | yes x ↦ absurd (omega (arith, node-low m z t (B .rep) y, marked k m n (word m 7) z C x .mark, height-size t, B .many, A .bounded .most-voids, A .bounded .most-room))
-          | no x ↦ omega (arith, rep-once m 0 mostKey t (B .rep) (B .ordered) z)
+          | yes x ↦ absurd (omega (arith, node-low m z rootSeat t (B .stands) y, marked k m n (word m 7) z C x .mark, height-size t, B .many, A .bounded .most-voids, A .bounded .most-room))
+          | no x ↦ omega (arith, stands-once m rootSeat 0 mostKey t (B .stands) (B .ordered) z)
         ]
     | no y ↦ elim (decLt 0 (among z ps)) [
-      | yes x ↦ omega (arith, spare-once k m n (word m 7) z C, below-is z n (marked k m n (word m 7) z C x .less))
-      | no x ↦ omega arith
+      | yes x ↦
+          let i = marked k m n (word m 7) z C x in
+          let o = same-other z 0 (λ e. omega (arith, i .some)) in
+          omega (arith, spare-once k m n (word m 7) z C, below-is z n (i .less))
+      | no x ↦ elim (decLt 0 z) [
+        | yes w ↦ omega (arith, same-other z 0 (λ e. omega arith))
+        | no w ↦ omega (arith, same-most z 0, below-is z n (omega arith))
+      ]
     ]
   ]
 
   -- the spare places are those that the tree leaves
-  many : length ps + 2 * size t ≡ 2 * word m 0 + 2
+  many : length ps + size t ≡ word m 0 + 1
   many = omega (arith, length-spares k m (word m 7), B .many, A .bounded .most-voids)
 
   heads : Heads m (header (read m t))
@@ -165,14 +176,14 @@ module _ (m : List ℕ) (t : Tree) (A : Settled m) (B : Treed m t) (C : Spared m
   heads (suc (suc zero)) l = sym (length-listed (word m 2) m 8)
   heads (suc (suc (suc zero))) l = refl
   heads (suc (suc (suc (suc zero)))) l = refl
-  heads (suc (suc (suc (suc (suc zero))))) l = sym (B .at)
+  heads (suc (suc (suc (suc (suc zero))))) l = A .unused
   heads (suc (suc (suc (suc (suc (suc zero)))))) l = sym (B .many)
   heads (suc (suc (suc (suc (suc (suc (suc zero))))))) l = sym (first-spare k m n (word m 7) C)
   heads (suc (suc (suc (suc (suc (suc (suc (suc j)))))))) l =
       let e : suc (suc (suc (suc (suc (suc (suc (suc j))))))) ≡ 8 + j = omega arith in
-      ap (word m) e ∙ (delay j (omega arith) ∙ sym (padded-at 18 (listed (word m 2) m 8) j (omega arith)))
+      ap (word m) e ∙ (delay j (omega arith) ∙ sym (padded-at 20 (listed (word m 2) m 8) j (omega arith)))
     where
-      delay : (i : ℕ) → i < 18 → word m (8 + i) ≡ getD (listed (word m 2) m 8) i 0
+      delay : (i : ℕ) → i < 20 → word m (8 + i) ≡ getD (listed (word m 2) m 8) i 0
       delay i h = elim (decLt i (word m 2)) [
         | yes y ↦ sym (listed-at (word m 2) m 8 i y)
         | no y ↦ A .zeros (8 + i) (omega arith) (omega arith) ∙ sym (get-past (listed (word m 2) m 8) i (omega (arith, length-listed (word m 2) m 8)))
@@ -196,7 +207,7 @@ module _ (m : List ℕ) (t : Tree) (A : Settled m) (B : Treed m t) (C : Spared m
     lawful = B .lawful;
     apart = B .apart;
     openEnds = B .openEnds;
-    all = covered t ps n few (omega (arith, many));
+    all = covered t ps n (omega arith) few many;
     many = many;
     within = omega (arith, B .many, A .bounded .most-voids);
   }
@@ -207,7 +218,7 @@ module _ (m : List ℕ) (t : Tree) (A : Settled m) (B : Treed m t) (C : Spared m
     lines = omega (arith, length-listed (word m 2) m 8, A .bounded .most-lines);
     long = A .long;
     heads = heads;
-    rep = B .rep;
+    stands = B .stands;
     spare = threads-spares k m n (word m 7) C;
   }
 

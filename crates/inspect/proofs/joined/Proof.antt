@@ -18,41 +18,37 @@ returns c = search needs
 returns-2 : tie.Need-returns-2
 returns-2 c = search needs
 
+larger-requires-2 : tie.Need-larger-requires-2
+larger-requires-2 c κs = search needs
+
 returns-3 : tie.Need-returns-3
 returns-3 c = search needs
 
-larger-requires-2 : tie.Need-larger-requires-2
-larger-requires-2 c κs = search needs
+smaller-requires : tie.Need-smaller-requires
+smaller-requires c κs = search needs
 
 returns-4 : tie.Need-returns-4
 returns-4 c = search needs
 
-smaller-requires : tie.Need-smaller-requires
-smaller-requires c κs = search needs
+add-if5 : tie.Need-add-if5
+add-if5 c = search needs
 
 returns-5 : tie.Need-returns-5
 returns-5 c = search needs
 
 add-if6 : tie.Need-add-if6
-add-if6 c = search needs
+add-if6 c = omega (arith, c .before .before .before .before .before .before .before .before .before .before .before .before .before .before .before .before .pre)
 
 returns-6 : tie.Need-returns-6
 returns-6 c = search needs
 
-add-if7 : tie.Need-add-if7
-add-if7 c = omega (arith, c .before .before .before .before .before .before .before .before .before .before .before .before .before .before .before .before .before .before .before .pre)
-
 returns-7 : tie.Need-returns-7
-returns-7 c = search needs
-
-returns-8 : tie.Need-returns-8
-returns-8 c = record {
-  height = c .before .before .before .before .before .before .before .before .before .before .before .before .before .before .before .before .before .before .if1 .left ∙ ap (λ (h : ℕ). h + 1) (c .before .before .before .before .before .before .before .before .before .before .before .before .before .before .before .before .before .before .before .before .larger .ensures);
-  lo = c .before .before .before .before .before .before .before .before .before .before .before .before .before .before .before .if2 .left;
-  split = c .before .before .before .before .before .before .before .before .before .before .before .before .if3 .left;
-  top = c .before .before .before .before .before .before .before .before .before .if4 .left ∙ c .before .before .before .before .before .before .before .before .before .before .before .larger2 .ensures;
-  low = c .before .before .before .before .before .before .if5 .left ∙ c .before .before .before .before .before .before .before .before .smaller .ensures;
-  near = record { left = c .before .before .before .if6 .left; right = c .if7 .left };
+returns-7 c = record {
+  height = c .before .before .before .before .before .before .before .before .before .before .before .before .before .before .before .if1 .left ∙ ap (λ (h : ℕ). h + 1) (c .before .before .before .before .before .before .before .before .before .before .before .before .before .before .before .before .before .larger .ensures);
+  lo = c .before .before .before .before .before .before .before .before .before .before .before .before .if2 .left;
+  top = c .before .before .before .before .before .before .before .before .before .if3 .left ∙ c .before .before .before .before .before .before .before .before .before .before .before .larger2 .ensures;
+  low = c .before .before .before .before .before .before .if4 .left ∙ c .before .before .before .before .before .before .before .before .smaller .ensures;
+  near = record { left = c .before .before .before .if5 .left; right = c .if6 .left };
 }
 
 pub joined-spec : {M : Type 1} → statement M
@@ -63,13 +59,12 @@ joined-spec =
     add-if1
     returns
     returns-2
-    returns-3
     larger-requires-2
-    returns-4
+    returns-3
     smaller-requires
+    returns-4
+    add-if5
     returns-5
     add-if6
     returns-6
-    add-if7
-    returns-7
-    returns-8)
+    returns-7)

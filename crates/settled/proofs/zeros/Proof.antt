@@ -9,10 +9,10 @@ use Rattle.settled.proofs.zeros.Statement.{statement}
 use Rattle.settled.proofs.zeros.Tie as tie
 
 abbrev Inv-loop : tie.InvT-loop
-Inv-loop mem from i₀ i = (i ≤ 26) × (from ≤ i) × ((j : ℕ) → from ≤ j → j < i → word mem j ≡ 0)
+Inv-loop mem from i₀ i = (i ≤ 28) × (from ≤ i) × ((j : ℕ) → from ≤ j → j < i → word mem j ≡ 0)
 
 abbrev μ-loop : tie.MeasureT-loop
-μ-loop mem from i₀ i = 26 - i
+μ-loop mem from i₀ i = 28 - i
 
 loop-holds : tie.Need-loop-holds Inv-loop μ-loop
 loop-holds c = (omega arith, omega arith, λ j g h. absurd (omega arith))

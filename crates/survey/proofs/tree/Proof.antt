@@ -17,23 +17,17 @@ get-requires-3 c κs = search needs
 get-requires-4 : tie.Need-get-requires-4
 get-requires-4 c κs = search needs
 
-get-requires-5 : tie.Need-get-requires-5
-get-requires-5 c κs = search needs
-
-mul-places : tie.Need-mul-places
-mul-places c = search needs
-
-add-places : tie.Need-add-places
-add-places c = search needs
-
 allowed-requires : tie.Need-allowed-requires
 allowed-requires c κs = search needs
 
 add-limit : tie.Need-add-limit
-add-limit c = omega (arith, allowed-small _ _ (c .allowed .ensures) (omega (arith, c .before .get5 .ensures, c .before .before .before .before .before .before .before .pre .bounded)))
+add-limit c = omega (arith, allowed-small _ _ (c .allowed .ensures) (omega (arith, c .before .get4 .ensures, c .before .before .before .before .before .before .pre .bounded)))
 
 slice-aggregate-survey : tie.Need-slice-aggregate-survey
 slice-aggregate-survey c = search needs
+
+add-survey : tie.Need-add-survey
+add-survey c = search needs
 
 mul-survey : tie.Need-mul-survey
 mul-survey c = search needs
@@ -42,22 +36,22 @@ sub-survey : tie.Need-sub-survey
 sub-survey c = search needs
 
 survey-requires : tie.Need-survey-requires
-survey-requires c κs = record { long = omega (arith, c .before .before .before .before .before .before .get .ensures, c .before .before .before .before .before .before .before .before .pre .long); small = omega (arith, c .before .before .before .before .before .before .get .ensures, c .before .before .before .before .before .before .before .before .pre .bounded); ends = omega (arith, c .before .before .before .before .before .get2 .ensures, c .before .before .before .before .before .before .before .before .pre .bounded); most-floor = omega (arith, c .before .before .before .before .get3 .ensures, c .before .before .before .before .before .before .before .before .pre .bounded) }
+survey-requires c κs = record { long = omega (arith, c .before .before .before .before .before .get .ensures, c .before .before .before .before .before .before .before .pre .long); small = omega (arith, c .before .before .before .before .before .get .ensures, c .before .before .before .before .before .before .before .pre .bounded); least = omega arith; most = omega arith; ends = omega (arith, c .before .before .before .before .get2 .ensures, c .before .before .before .before .before .before .before .pre .bounded); most-floor = omega (arith, c .before .before .before .get3 .ensures, c .before .before .before .before .before .before .before .pre .bounded) }
 
 returns : tie.Need-returns
-returns c = no-tree _ _ _ _ _ _ _ (c .before .before .before .before .before .before .before .before .before .before .get .ensures) (c .before .before .before .before .before .before .before .before .before .get2 .ensures) (c .before .before .before .before .before .before .before .before .get3 .ensures) (c .before .before .before .before .before .before .before .get4 .ensures) (c .before .before .before .before .before .before .get5 .ensures) (omega (arith, c .before .before .before .before .before .before .get5 .ensures, c .before .before .before .before .before .before .before .before .before .before .before .before .pre .bounded)) (c .before .before .before .before .before .allowed .ensures) _ _ _ (omega (arith, c .before .before .before .before .before .before .before .before .before .get2 .ensures, c .before .before .before .before .before .before .before .before .before .before .before .before .pre .bounded)) (zeros 64) (c .before .before .before .survey .ensures) (c .if1 .taken)
+returns c = no-tree _ _ _ _ _ _ (c .before .before .before .before .before .before .before .before .before .get .ensures) (c .before .before .before .before .before .before .before .before .get2 .ensures) (c .before .before .before .before .before .before .before .get3 .ensures) (c .before .before .before .before .before .before .get4 .ensures) (omega (arith, c .before .before .before .before .before .before .get4 .ensures, c .before .before .before .before .before .before .before .before .before .before .before .pre .bounded)) (c .before .before .before .before .before .allowed .ensures) _ _ _ (omega (arith, c .before .before .before .before .before .before .before .before .get2 .ensures, c .before .before .before .before .before .before .before .before .before .before .before .pre .bounded)) (zeros 64) (c .before .before .before .survey .ensures) (c .if1 .taken)
 
 returns-2 : tie.Need-returns-2
-returns-2 c = no-many _ _ _ _ _ _ _ (c .before .before .before .before .before .before .before .before .before .before .before .before .get .ensures) (c .before .before .before .before .before .before .before .before .before .before .before .get2 .ensures) (c .before .before .before .before .before .before .before .before .before .before .get3 .ensures) (c .before .before .before .before .before .before .before .before .before .get4 .ensures) (c .before .before .before .before .before .before .before .before .get5 .ensures) (omega (arith, c .before .before .before .before .before .before .before .before .get5 .ensures, c .before .before .before .before .before .before .before .before .before .before .before .before .before .before .pre .bounded)) (c .before .before .before .before .before .before .before .allowed .ensures) _ _ _ (omega (arith, c .before .before .before .before .before .before .before .before .before .before .before .get2 .ensures, c .before .before .before .before .before .before .before .before .before .before .before .before .before .before .pre .bounded)) (zeros 64) (c .before .before .before .before .before .survey .ensures) (c .before .before .if1 .left) (c .if2 .taken)
+returns-2 c = no-many _ _ _ _ _ _ (c .before .before .before .before .before .before .before .before .before .before .before .get .ensures) (c .before .before .before .before .before .before .before .before .before .before .get2 .ensures) (c .before .before .before .before .before .before .before .before .before .get3 .ensures) (c .before .before .before .before .before .before .before .before .get4 .ensures) (omega (arith, c .before .before .before .before .before .before .before .before .get4 .ensures, c .before .before .before .before .before .before .before .before .before .before .before .before .before .pre .bounded)) (c .before .before .before .before .before .before .before .allowed .ensures) _ _ _ (omega (arith, c .before .before .before .before .before .before .before .before .before .before .get2 .ensures, c .before .before .before .before .before .before .before .before .before .before .before .before .before .pre .bounded)) (zeros 64) (c .before .before .before .before .before .survey .ensures) (c .before .before .if1 .left) (c .if2 .taken)
 
 slice-aggregate-open-ends : tie.Need-slice-aggregate-open-ends
 slice-aggregate-open-ends c = search needs
 
 open-ends-requires : tie.Need-open-ends-requires
-open-ends-requires c κs = omega (arith, c .before .before .before .before .before .before .survey .kept .1 .0, c .before .before .before .before .before .before .before .before .before .before .before .before .get2 .ensures, c .before .before .before .before .before .before .before .before .before .before .before .before .before .before .before .pre .bounded)
+open-ends-requires c κs = omega (arith, c .before .before .before .before .before .before .survey .kept .1 .0, c .before .before .before .before .before .before .before .before .before .before .before .get2 .ensures, c .before .before .before .before .before .before .before .before .before .before .before .before .before .before .pre .bounded)
 
 returns-3 : tie.Need-returns-3
-returns-3 c = plants _ _ _ _ _ _ _ (c .before .before .before .before .before .before .before .before .before .before .before .before .before .before .get .ensures) (c .before .before .before .before .before .before .before .before .before .before .before .before .before .get2 .ensures) (c .before .before .before .before .before .before .before .before .before .before .before .before .get3 .ensures) (c .before .before .before .before .before .before .before .before .before .before .before .get4 .ensures) (c .before .before .before .before .before .before .before .before .before .before .get5 .ensures) (omega (arith, c .before .before .before .before .before .before .before .before .before .before .get5 .ensures, c .before .before .before .before .before .before .before .before .before .before .before .before .before .before .before .before .pre .bounded)) (c .before .before .before .before .before .before .before .before .before .allowed .ensures) _ _ _ (omega (arith, c .before .before .before .before .before .before .before .before .before .before .before .before .before .get2 .ensures, c .before .before .before .before .before .before .before .before .before .before .before .before .before .before .before .before .pre .bounded)) (zeros 64) (c .before .before .before .before .before .before .before .survey .ensures) (c .before .before .before .before .if1 .left) (c .open-ends .result) (c .before .before .if2 .left) (c .open-ends .ensures)
+returns-3 c = plants _ _ _ _ _ _ (c .before .before .before .before .before .before .before .before .before .before .before .before .before .get .ensures) (c .before .before .before .before .before .before .before .before .before .before .before .before .get2 .ensures) (c .before .before .before .before .before .before .before .before .before .before .before .get3 .ensures) (c .before .before .before .before .before .before .before .before .before .before .get4 .ensures) (omega (arith, c .before .before .before .before .before .before .before .before .before .before .get4 .ensures, c .before .before .before .before .before .before .before .before .before .before .before .before .before .before .before .pre .bounded)) (c .before .before .before .before .before .before .before .before .before .allowed .ensures) _ _ _ (omega (arith, c .before .before .before .before .before .before .before .before .before .before .before .before .get2 .ensures, c .before .before .before .before .before .before .before .before .before .before .before .before .before .before .before .pre .bounded)) (zeros 64) (c .before .before .before .before .before .before .before .survey .ensures) (c .before .before .before .before .if1 .left) (c .open-ends .result) (c .before .before .if2 .left) (c .open-ends .ensures)
 
 pub tree-spec : {M : Type 1} → statement M
 tree-spec =
@@ -67,12 +61,10 @@ tree-spec =
     get-requires-2
     get-requires-3
     get-requires-4
-    get-requires-5
-    mul-places
-    add-places
     allowed-requires
     add-limit
     slice-aggregate-survey
+    add-survey
     mul-survey
     sub-survey
     survey-requires
