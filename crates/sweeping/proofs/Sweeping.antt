@@ -36,19 +36,19 @@ sweep-early zero s moment n = absurd (n refl)
 sweep-early (suc c) s moment n = refl
 
 -- what is left of a link, cleared
-kept-link : {m : List ℕ} (b : ℕ) (s : State) → Link m s → (p k e : ℕ) → In p k e (s .tree) → b ≤ e
+kept-link : {m : List ℕ} (b : ℕ) (s : State) → Link m s → (k e : ℕ) → In k e (s .tree) → b ≤ e
     → Placed (with-tree s (leftOf (s .tree) (clear b (s .tree))) (freed b (s .tree) ++ s .spares)) × Balanced (leftOf (s .tree) (clear b (s .tree)))
-kept-link b s L p k e i h =
-    let u = left-some b (s .tree) p k e (L .even) i h in
+kept-link b s L k e i h =
+    let u = left-some b (s .tree) k e (L .even) i h in
     rw (u .1) (placed-left s b (u .0) (u .2) (L .placed), u .2 .even .0)
 
 -- how many went
-dropped-many : {m : List ℕ} (moment : ℕ) (s : State) → Link m s → (p k e : ℕ) → In p k e (s .tree) → least moment ≤ e
+dropped-many : {m : List ℕ} (moment : ℕ) (s : State) → Link m s → (k e : ℕ) → In k e (s .tree) → least moment ≤ e
     → toDrop moment (s .tree) + size ((cleared s (least moment)) .tree) ≡ size (s .tree)
 unfolding cleared
-dropped-many moment s L p k e i h =
-    let u = left-some (least moment) (s .tree) p k e (L .even) i h in
-    rw (u .1) (omega (arith, u .2 .lost (λ p k e. 1), size-weight (u .0), size-weight (s .tree)))
+dropped-many moment s L k e i h =
+    let u = left-some (least moment) (s .tree) k e (L .even) i h in
+    rw (u .1) (omega (arith, u .2 .lost (λ k e. 1), size-weight (u .0), size-weight (s .tree)))
 
 -- an outcome in memory
 sweeps : (moment : ℕ) (a : Answer) (m m′ : List ℕ) (s : State) (o : Outcome) → act s (sweep moment) ≡ o
@@ -71,8 +71,8 @@ module _ (m : List ℕ) (moment floor leap code : ℕ) (ef : floor ≡ word m 4)
     lasting : (s : State) → Sound s → Holds m s → Lasting bound m s
     lasting s W H =
         let x = low-ends (s .tree) in
-        let o = W .openEnds _ (all-in _ (s .tree) (W .lawful) (x .place) (x .key) (low (s .tree)) (x .inside) .channel) in
-        record { link = whole-link W H; place = o .place; key = o .key; end = openEnd; inside = o .inside; late = omega (arith, eb, least-most moment, late) }
+        let o = W .openEnds _ (all-in _ (s .tree) (W .lawful) (x .key) (low (s .tree)) (x .inside) .channel) in
+        record { link = whole-link W H; key = o .key; end = openEnd; inside = o .inside; late = omega (arith, eb, least-most moment, late) }
 
     pub clearable : Whole m → Lasts bound m
     clearable w = (w .0, lasting (w .0) (w .1) (w .2))
@@ -82,7 +82,7 @@ module _ (m : List ℕ) (moment floor leap code : ℕ) (ef : floor ≡ word m 4)
       unfolding cleared
       cleared-link s W H =
           let L = lasting s W H in
-          let K = kept-link bound s (L .link) (L .place) (L .key) (L .end) (L .inside) (L .late) in
+          let K = kept-link bound s (L .link) (L .key) (L .end) (L .inside) (L .late) in
           record { placed = K .0; even = K .1; holds = C s L .1 .holds }
 
       pub some : Whole m → Some m1
@@ -94,5 +94,5 @@ module _ (m : List ℕ) (moment floor leap code : ℕ) (ef : floor ≡ word m 4)
           let L = lasting s W H in
           let D = C s L in
           let A : After m m2 (with-floor (cleared s bound) moment) = after-then refl (D .1) (f (cleared s bound) (cleared-link s W H)) in
-          let e : n ≡ toDrop moment (s .tree) = omega (arith, D .0, dropped-many moment s (L .link) (L .place) (L .key) (L .end) (L .inside) (subst (λ b. b ≤ L .end) eb (L .late)), ap (λ b. size ((cleared s b) .tree)) eb) in
+          let e : n ≡ toDrop moment (s .tree) = omega (arith, D .0, dropped-many moment s (L .link) (L .key) (L .end) (L .inside) (subst (λ b. b ≤ L .end) eb (L .late)), ap (λ b. size ((cleared s b) .tree)) eb) in
           sweeps moment _ m m2 s (sweepAs 0 s moment) (rw (code-is s H ∙ z)) (rw e) (rw eb at A)
