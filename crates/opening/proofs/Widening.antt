@@ -2,8 +2,8 @@
 use mathlib.Core.Path.{_≡_, refl, ap, _∙_}
 use mathlib.Core.Logic.{inl, inr}
 use mathlib.Core.Bool.{true}
-use mathlib.Core.List.{List, _∷_}
-use Prim.Native.Nat.{ℕ, zero, suc, _+_, _*_, _≤_, _<_}
+use mathlib.Core.List.{List, [], _∷_}
+use Prim.Native.Nat.{ℕ, zero, suc, _+_, _≤_, _<_}
 use native.Mathlib.Numerals.{add-one}
 use native.Mathlib.Omega.{arith}
 use lib.ListN.{length}
@@ -26,7 +26,6 @@ use Rattle.memory.specs.Holds.{Past, After}
 use Rattle.memory.specs.Steps.{Link, Roomy, Adds}
 use Rattle.memory.proofs.Parts.{below-is, below-out, past-none, past-then, part-put, opened, closed}
 use Rattle.shape.specs.SizeLaws.{size-insert}
-use Rattle.memory.proofs.Adding.{two}
 use Rattle.opening.specs.Stages.{Begun}
 use Rattle.opening.proofs.Beginning.{length-up}
 
@@ -60,9 +59,9 @@ wide-single g floor =
     record {
       placed = record {
         all = λ z.
-            let e : 1 + 2 * g .room ≡ 2 * g .room + 1 = omega arith in
-            omega (arith, rw e at (among-up z 1 (2 * g .room)), below-next z 0, below-out z 0 (omega arith));
-        many = omega (arith, length-up 1 (2 * g .room));
+            let e : 1 + g .room ≡ g .room + 1 = omega arith in
+            omega (arith, rw e at (among-up z 1 (g .room)), below-next z 0, below-out z 0 (omega arith));
+        many = omega (arith, length-up 1 (g .room));
       };
       even = tt;
       many = refl;
@@ -75,20 +74,24 @@ wide-single g floor =
 abbrev more : State → State
 more s = record { settings = with-channels (s .settings) (s .settings .channels + 1); floor = s .floor; tree = s .tree; spares = s .spares }
 
+-- a place is spare
+one : (ps : List ℕ) → 1 ≤ length ps → ps ≡ first ps ∷ rest ps
+one [] h = absurd (omega arith)
+one (p ∷ ps) h = refl
+
 wide-step : (g : Settings) (floor j : ℕ) (s : State) → j ≤ g .room → Wide g floor j s → Wide g floor (j + 1) (widen s)
 unfolding widen add
 wide-step g floor j s fit w =
     let Q = first (s .spares) in
-    let R = first (rest (s .spares)) in
-    let e : s .spares ≡ Q ∷ R ∷ rest (rest (s .spares)) = two (s .spares) (omega (arith, w .placed .many, w .many, w .room)) in
+    let e : s .spares ≡ Q ∷ rest (s .spares) = one (s .spares) (omega (arith, w .placed .many, w .many, w .room)) in
     let k = keyOf (s .floor) (s .settings .channels) in
     record {
       placed = record {
-        all = λ z. omega (arith, rw e at (w .placed .all z), weight-insert (λ p k e. same z p) (same z) k openEnd Q R (s .tree));
-        many = omega (arith, w .placed .many, ap length e, size-insert k openEnd Q R (s .tree));
+        all = λ z. omega (arith, rw e at (w .placed .all z), weight-insert (λ k e. 0) (same z) k openEnd Q (s .tree));
+        many = omega (arith, w .placed .many, ap length e, size-insert k openEnd Q (s .tree));
       };
-      even = even-insert k openEnd Q R (s .tree) (w .even);
-      many = omega (arith, w .many, size-insert k openEnd Q R (s .tree));
+      even = even-insert k openEnd Q (s .tree) (w .even);
+      many = omega (arith, w .many, size-insert k openEnd Q (s .tree));
       channels = omega (arith, w .channels);
       room = w .room;
       floor = w .floor;
@@ -124,7 +127,7 @@ room-widened (suc n) s = room-widened n (widen s)
 
 -- ---- what holds of a link that is begun
 module _ (g : Settings) (channels floor : ℕ) (m0 : List ℕ) (B : Begun g channels floor m0) where
-  pub limits : (1 ≤ channels) × (channels ≤ 64) × (channels ≤ g .room) × (floor < openEnd) × (208 ≤ length m0)
+  pub limits : (1 ≤ channels) × (channels ≤ 64) × (channels ≤ g .room) × (floor < openEnd) × (224 ≤ length m0)
   limits = let b = in-bounds g (B .bounds) in omega (arith, B .many, B .early, b .channels .0, b .channels .1, b .room .0, B .holds .long)
 
   pub begins : After m0 m0 (widened (fewer 1) (single g floor))

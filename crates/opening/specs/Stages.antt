@@ -18,18 +18,18 @@ use Rattle.memory.specs.Part.{Part}
 -- k words from the eighth on are those of the list, then 0; past the header m′ is m
 pub record Tail (k : ℕ) (ds : List ℕ) (m m′ : List ℕ) : Type 0 where
   pub words : (i : ℕ) → i < k → word m′ (8 + i) ≡ getD ds i 0
-  pub past : Past 208 m m′
+  pub past : Past 224 m m′
 
--- the header of one channel with one void at place 0, and no spare place
+-- the header of one channel with one void, and no spare place
 abbrev pub bareHeader : (room leap floor : ℕ) → (delays : List ℕ) → List ℕ
-bareHeader room leap floor ds = room ∷ 1 ∷ length ds ∷ leap ∷ floor ∷ 0 ∷ 1 ∷ 0 ∷ padded 18 ds
+bareHeader room leap floor ds = room ∷ 1 ∷ length ds ∷ leap ∷ floor ∷ 0 ∷ 1 ∷ 0 ∷ padded 20 ds
 
 -- m′ begins with the header h, and past it is m
 pub record Draft (h : List ℕ) (m m′ : List ℕ) : Type 0 where
-  pub long : 208 ≤ length m′
+  pub long : 224 ≤ length m′
   pub wide : length h ≡ headerWords
   pub heads : Heads m′ h
-  pub past : Past 208 m m′
+  pub past : Past 224 m m′
 
 -- the last k of the places from 1 to n are spare now, where none was
 abbrev pub Laid : (n k : ℕ) → (m m′ : List ℕ) → Type 0

@@ -47,7 +47,7 @@ loop-again c =
     let start = at-loop .before .before in (
       omega (arith, at-loop-test .loop-test .taken),
       at-give-spare .give-spare .kept .0 ∙ at-loop .loop .inv .1,
-      laid-low _ _ _ _ _ (omega (arith, at-loop .loop .inv .1, start .pre)) (omega (arith, start .pre)) (at-give-spare .give-spare .ensures),
+      laid-low _ _ _ _ (omega (arith, at-loop .loop .inv .1, start .pre)) (omega (arith, start .pre)) (at-give-spare .give-spare .ensures),
       laid-step _ _ _ _ _ (at-loop-test .loop-test .taken) (at-loop .loop .inv .3) (at-give-spare .give-spare .ensures),
     )
 

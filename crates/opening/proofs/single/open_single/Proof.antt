@@ -22,9 +22,6 @@ save-requires c κs =
     let start = at-put-header .before .before .before .before in
     save-pre _ _ (start .args .delays .now) (start .args .room) (start .args .leap) (start .args .floor) _ (start .pre .0) (at-put-header .put-header .ensures) (c .leaf .ensures)
 
-mul-lay : tie.Need-mul-lay
-mul-lay c = omega (arith, c .before .before .before .before .before .before .before .before .before .before .before .before .before .pre .1)
-
 lay-requires : tie.Need-lay-requires
 lay-requires c κs =
     let at-save = c .before .before .before in
@@ -55,7 +52,6 @@ open-single-spec =
     key-requires
     leaf-requires
     save-requires
-    mul-lay
     lay-requires
     same-length
     returns)

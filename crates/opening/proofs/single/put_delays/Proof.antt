@@ -9,10 +9,10 @@ use Rattle.opening.proofs.single.put_delays.Statement.{statement}
 use Rattle.opening.proofs.single.put_delays.Tie as tie
 
 abbrev Inv-loop : tie.InvT-loop
-Inv-loop mem₀ delays i₀ mem i = (i ≤ 18) × Tail i delays mem₀ mem
+Inv-loop mem₀ delays i₀ mem i = (i ≤ 20) × Tail i delays mem₀ mem
 
 abbrev μ-loop : tie.MeasureT-loop
-μ-loop mem₀ delays i₀ mem i = 18 - i
+μ-loop mem₀ delays i₀ mem i = 20 - i
 
 loop-holds : tie.Need-loop-holds Inv-loop μ-loop
 loop-holds c = (omega arith, tail-0 _ _)
