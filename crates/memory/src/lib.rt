@@ -30,7 +30,7 @@ pub const SPARE: usize = 7;
 
 pub const DELAYS: usize = 8;
 
-// The longest way from a root down to a leaf, in places.
+// The longest way from a root down to a leaf, in seats.
 pub const LONGEST_WAY: usize = tracing::LONGEST_WAY;
 
 // The height that marks a spare node.
