@@ -2,18 +2,14 @@
 //! Each figure is the median of several rounds, in nanoseconds an operation; the memory is warm.
 use std::time::Instant;
 
-#[repr(C)]
-struct Cut {
-    root: usize,
-    leaf: usize,
-    node: usize,
-}
+/// The root's seat; the place q has the seats 2 q and 2 q + 1 (docs/ARCHITECTURE.md).
+const ROOT: usize = 1;
 
 // A slice passes as a pointer and a length. The functions ask that a tree stands at the root (`Alone`, crates/tracing/specs).
 extern "C" {
-    fn tree_plant(mem: *mut u8, len: usize, p: usize, key: u64, end: u64);
-    fn tree_insert(mem: *mut u8, len: usize, root: usize, key: u64, end: u64, p: usize, q: usize) -> usize;
-    fn tree_remove(mem: *mut u8, len: usize, root: usize, key: u64) -> Cut;
+    fn tree_plant(mem: *mut u8, len: usize, s: usize, key: u64, end: u64);
+    fn tree_insert(mem: *mut u8, len: usize, root: usize, key: u64, end: u64, q: u64);
+    fn tree_remove(mem: *mut u8, len: usize, root: usize, key: u64) -> u64;
     fn tree_set_end(mem: *mut u8, len: usize, root: usize, key: u64, end: u64);
     fn tree_search(mem: *const u8, len: usize, root: usize, r: u64, f: u64) -> u64;
 }
@@ -31,7 +27,6 @@ impl Random {
 
 struct Tree {
     mem: Vec<u8>,
-    root: usize,
     voids: Vec<(u64, u64)>,
     random: Random,
     range: u64,
@@ -51,18 +46,17 @@ impl Tree {
 
     fn new(n: usize) -> Tree {
         let mut t = Tree {
-            mem: vec![0; 208 + 40 * (2 * n + 1)],
-            root: 0,
+            mem: vec![0; 224 + 32 * (2 * n - 1)],
             voids: Vec::new(),
             random: Random(88172645463325252),
             range: n as u64 * 16,
         };
         let (key, end) = t.draw();
-        unsafe { tree_plant(t.mem.as_mut_ptr(), t.mem.len(), 0, key, end) };
+        unsafe { tree_plant(t.mem.as_mut_ptr(), t.mem.len(), ROOT, key, end) };
         t.voids.push((key, end));
         for i in 1..n {
             let (key, end) = t.draw();
-            t.root = unsafe { tree_insert(t.mem.as_mut_ptr(), t.mem.len(), t.root, key, end, 2 * i - 1, 2 * i) };
+            unsafe { tree_insert(t.mem.as_mut_ptr(), t.mem.len(), ROOT, key, end, i as u64) };
             t.voids.push((key, end));
         }
         t
@@ -81,7 +75,7 @@ impl Tree {
         let began = Instant::now();
         let mut sum = 0;
         for &(r, f) in &asks {
-            sum += unsafe { tree_search(self.mem.as_ptr(), len, self.root, r, f) };
+            sum += unsafe { tree_search(self.mem.as_ptr(), len, ROOT, r, f) };
         }
         std::hint::black_box(sum);
         let search = began.elapsed().as_nanos() as f64 / asks.len() as f64;
@@ -90,7 +84,7 @@ impl Tree {
         let began = Instant::now();
         for &i in &spots {
             let (key, end) = self.voids[i];
-            unsafe { tree_set_end(self.mem.as_mut_ptr(), len, self.root, key, end + 1) };
+            unsafe { tree_set_end(self.mem.as_mut_ptr(), len, ROOT, key, end + 1) };
             self.voids[i].1 = end + 1;
         }
         let set = began.elapsed().as_nanos() as f64 / spots.len() as f64;
@@ -108,9 +102,7 @@ impl Tree {
             let mut free = Vec::with_capacity(part);
             let began = Instant::now();
             for &key in &going {
-                let c = unsafe { tree_remove(self.mem.as_mut_ptr(), len, self.root, key) };
-                self.root = c.root;
-                free.push((c.leaf, c.node));
+                free.push(unsafe { tree_remove(self.mem.as_mut_ptr(), len, ROOT, key) });
             }
             removing += began.elapsed().as_nanos() as f64;
             let coming: Vec<(u64, u64)> = (0..part)
@@ -121,8 +113,8 @@ impl Tree {
                 })
                 .collect();
             let began = Instant::now();
-            for (&(key, end), &(p, q)) in coming.iter().zip(&free) {
-                self.root = unsafe { tree_insert(self.mem.as_mut_ptr(), len, self.root, key, end, p, q) };
+            for (&(key, end), &q) in coming.iter().zip(&free) {
+                unsafe { tree_insert(self.mem.as_mut_ptr(), len, ROOT, key, end, q) };
             }
             inserting += began.elapsed().as_nanos() as f64;
             count += part;

@@ -3,31 +3,24 @@ ghost use Prim.Native.Nat.{_≤_};
 ghost use Rattle.rule.specs.Moments.{lastMoment};
 ghost use Rattle.node.specs.Layout.{Within, nodeAt};
 ghost use Rattle.tracing.specs.Alone.{Alone};
-ghost use Rattle.rising.specs.Changes.{Ready};
+ghost use Rattle.tree.specs.OnWays.{Insertable};
 
 #[no_mangle]
-pub extern "C" fn tree_plant(mem: &mut [u8], p: usize, key: u64, end: u64)
-    requires { ⌜ Within (now mem) p ⌝ }
+pub extern "C" fn tree_plant(mem: &mut [u8], s: usize, key: u64, end: u64)
+    requires { ⌜ Within (now mem) s ⌝ }
 {
-    node::save(mem, p, node::leaf(key, end));
+    node::save(mem, s, node::leaf(key, end));
 }
 
 #[no_mangle]
-pub extern "C" fn tree_insert(
-    mem: &mut [u8],
-    root: usize,
-    key: u64,
-    end: u64,
-    p: usize,
-    q: usize,
-) -> usize
-    requires { ⌜ Ready (now mem) root p q ⌝ }
+pub extern "C" fn tree_insert(mem: &mut [u8], root: usize, key: u64, end: u64, q: u64)
+    requires { ⌜ Insertable (now mem) root key end q ⌝ }
 {
-    tree::insert(mem, root, key, end, p, q)
+    tree::insert(mem, root, key, end, q);
 }
 
 #[no_mangle]
-pub extern "C" fn tree_remove(mem: &mut [u8], root: usize, key: u64) -> tree::Cut
+pub extern "C" fn tree_remove(mem: &mut [u8], root: usize, key: u64) -> u64
     requires { ⌜ 1 ≤ nodeAt (now mem) root .height ⌝ }
     requires { ⌜ Alone (now mem) root ⌝ }
 {

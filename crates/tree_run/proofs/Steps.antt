@@ -1,145 +1,151 @@
--- What each step of the run keeps: one void planted, one inserted in new places, one exchanged for another in its places.
+-- What each step of the run keeps: one void planted, one inserted at a new place, one exchanged for another at the place that is free then.
 use mathlib.Core.Path.{_≡_, ap}
 use mathlib.Core.Logic.{inl, inr}
 use mathlib.Core.List.{List}
 use Prim.Native.Nat.{ℕ, _+_, _*_, _≤_, _<_}
 use native.Mathlib.Omega.{arith}
+use native.Mathlib.Decide.{ℕ-discrete}
 use lib.ListN.{length}
 use Rattle.numbers.specs.Case.{case-le}
-use Rattle.shape.specs.Tree.{Tree, leaf, node, height, same, uses}
-use Rattle.shape.specs.Arrange.{insert, remove, setEnd, leafOf, above}
-use Rattle.shape.specs.PlaceLaws.{same-self, same-other, same-is, same-most}
+use Rattle.shape.specs.Tree.{Tree, leaf, node, height, size, same, uses}
+use Rattle.shape.specs.Arrange.{insert, remove, above, setEnd}
+use Rattle.shape.specs.PlaceLaws.{same-self, same-other, same-most}
+use Rattle.shape.specs.ChangeLaws.{weight-insert, weight-remove, weight-set, height-remove}
 use Rattle.shape.specs.HeightLaws.{height-few}
 use Rattle.shape.specs.EvenLaws.{even-insert, even-remove, even-set}
-use Rattle.shape.specs.SizeLaws.{size-insert, size-set, size-less}
-use Rattle.node.specs.Layout.{Within, nodeAt, leafNode, Saved}
+use Rattle.shape.specs.SizeLaws.{size-insert, size-remove, size-set}
+use Rattle.node.specs.Layout.{rootSeat, Within, nodeAt, leafNode, Saved}
 use Rattle.node.specs.Paths.{longestWay}
-use Rattle.node.specs.Rep.{Rep, Stands}
+use Rattle.node.specs.Rep.{Stands}
 use Rattle.node.proofs.Frames.{within-kept}
-use Rattle.node.proofs.Reps.{leaf-stands, tall}
-use Rattle.shape.specs.ChangeLaws.{fresh-once}
+use Rattle.node.proofs.Reps.{leaf-stands, left-stands, right-stands, tall, within}
 use Rattle.tracing.specs.Alone.{Alone, Sole}
-use Rattle.rising.specs.declared.Cut.{Cut}
-use Rattle.rising.specs.Changes.{Ready, Fresh, Inserts, Removes, Sets}
+use Rattle.rising.specs.Changes.{adding, cutting, ending, Begun, Changed, Becomes}
+use Rattle.tree.specs.OnWays.{Insertable, Removes}
+use Rattle.tree.proofs.Starting.{begun-ending, begun-cutting}
 use Rattle.search.specs.Search.{Searchable}
-use Rattle.tree_run.specs.Grown.{Grown, Has}
+use Rattle.tree_run.specs.Grown.{Grown, Has, voids, bytes}
 
-pub planted : (m m′ : List ℕ) (k e : ℕ) → 248 ≤ length m → Saved 0 (leafNode k e) m m′ → Has m′ 0 1 0
+pub planted : (m m′ : List ℕ) (k e : ℕ) → Within m rootSeat → Saved rootSeat (leafNode k e) m m′ → Has m′ 1
 planted m m′ k e l s = (
-  leaf 0 k e,
-  record {
-    stands = leaf-stands (omega arith) s;
-    once = λ z. same-most z 0;
-    free = λ z h. same-other z 0 (λ q. omega arith);
-    even = tt;
-    few = omega arith;
-  },
+  leaf k e,
+  record { stands = leaf-stands l s; once = λ z. omega (arith, same-most z 0); free = λ z h. omega arith; even = tt; many = omega arith },
 )
 
--- more places may be used, and the tree may be higher
-pub higher : (m : List ℕ) (root used a more b : ℕ) → used ≤ more → a ≤ b → Has m root used a → Has m root more b
-higher m root used a more b g h x = (x .0, record { stands = x .1 .stands; once = x .1 .once; free = λ z y. x .1 .free z (omega arith); even = x .1 .even; few = omega (arith, x .1 .few) })
+short : (m : List ℕ) (n : ℕ) → n ≤ voids → (t : Tree) → Grown m n t → height t < longestWay
+short m n h t g = height-few t (g .even) (omega (arith, g .many))
 
-short : (m : List ℕ) (root used high : ℕ) → high ≤ 30000 → (t : Tree) → Grown m root used high t → height t < longestWay
-short m root used high h t g = height-few t (g .even) (omega (arith, g .few))
+lone : (m : List ℕ) (n : ℕ) → n ≤ voids → (t : Tree) → Grown m n t → Sole m rootSeat t
+lone m n h t g = record { stands = g .stands; once = λ z. omega (arith, g .once z); even = g .even; low = short m n h t g }
 
-lone : (m : List ℕ) (root used high : ℕ) → high ≤ 30000 → (t : Tree) → Grown m root used high t → Sole m root t
-lone m root used high h t g = record { stands = g .stands; once = g .once; even = g .even; low = short m root used high h t g }
+pub alone : (m : List ℕ) → Has m voids → Alone m rootSeat
+alone m x = (x .0, lone m voids (omega arith) (x .0) (x .1))
 
-pub alone : (m : List ℕ) (root used high : ℕ) → high ≤ 30000 → Has m root used high → Alone m root
-alone m root used high h x = (x .0, lone m root used high h (x .0) (x .1))
+pub searchable : (m ws : List ℕ) → longestWay ≤ length ws → Has m voids → Searchable m rootSeat ws
+searchable m ws l x = (x .0, x .1 .stands, short m voids (omega arith) (x .0) (x .1), l)
 
-pub searchable : (m : List ℕ) (root used high : ℕ) (ws : List ℕ) → high ≤ 30000 → longestWay ≤ length ws → Has m root used high → Searchable m root ws
-searchable m root used high ws h l x = (x .0, x .1 .stands, short m root used high h (x .0) (x .1), l)
-
--- ---- a void more, in the places p and p + 1
-fresh : (m : List ℕ) (root p high : ℕ) → high ≤ 30000 → p < 60000 → 40 * p + 288 ≤ length m → (t : Tree) → Grown m root p high t → Fresh m root p (p + 1) t
-fresh m root p high h l f t g = record {
-  stands = g .stands;
-  once = fresh-once t p (p + 1) (g .once) (g .free p (omega arith)) (g .free (p + 1) (omega arith)) (λ e. omega arith);
-  even = g .even;
-  low = short m root p high h t g;
-  room-leaf = omega arith;
-  room-node = omega arith;
-}
-
-pub ready : (m : List ℕ) (root p q high : ℕ) → q ≡ p + 1 → high ≤ 30000 → p < 60000 → 40 * p + 288 ≤ length m → Has m root p high → Ready m root p q
-ready m root p q high e h l f x = rw e (x .0, fresh m root p high h l f (x .0) (x .1))
-
-pub grown : (m m′ : List ℕ) (root k e p q r high : ℕ) → q ≡ p + 1 → high ≤ 30000 → p < 60000 → 40 * p + 288 ≤ length m → Has m root p high → Inserts root k e p q r m m′ → Has m′ r (p + 2) (high + 1)
-grown m m′ root k e p q r high eq h l f x i =
-    let u : Fresh m root p q (x .0) = rw eq (fresh m root p high h l f (x .0) (x .1)) in
-    let g = i (x .0) u in (
-      insert k e p q (x .0),
+-- ---- a void more, at the place n
+module _ (m : List ℕ) (n k e : ℕ) (some : 1 ≤ n) (few : n < voids) (x : Has m n) where
+  begun : Begun (adding k e n) m rootSeat (x .0)
+  begun =
       record {
-        stands = g .stands;
-        once = λ z. omega (arith, g .many z, u .once z);
-        free = λ z y. omega (arith, g .many z, x .1 .free z (omega arith), same-other z p (λ w. omega arith), same-other z q (λ w. omega arith));
-        even = even-insert k e p q (x .0) (x .1 .even);
-        few = omega (arith, size-insert k e p q (x .0), x .1 .few);
-      },
-    )
-
--- ---- a void for another
-within : (t : Tree) (m : List ℕ) (z : ℕ) → Rep m t → 1 ≤ uses z t → Within m z
-unfolding Rep
-within (leaf p k e) m z r h = rw (same-is z p h) (r .0)
-within (node p a b) m z r h = elim (case-le 1 (uses z a)) [
-  | inl y ↦ within a m z (r .2) (y .0)
-  | inr y ↦ elim (case-le 1 (uses z b)) [ inl w ↦ within b m z (r .3) (w .0) | inr w ↦ rw (same-is z p (omega arith)) (r .0) ]
-]
-
-pub inner : (m : List ℕ) (root used high h : ℕ) → Has m root used high → h ≡ nodeAt m root .height → (h ≡ 0 → ⊥) → 1 ≤ nodeAt m root .height
-inner m root used high h x e n = elim (case-le 1 (nodeAt m root .height)) [ inl y ↦ y .0 | inr y ↦ absurd (n (omega arith)) ]
-
-module _ (m m′ : List ℕ) (root key used high : ℕ) (h : high ≤ 30000) (x : Has m root used high) (c : Cut) (r : Removes root key c m m′) where
-  sole : Sole m root (x .0)
-  sole = lone m root used high h (x .0) (x .1)
-
-  abbrev t : Tree
-  t = remove key (x .0)
-
-  cut-free : (z : ℕ) → uses z t + same z (c .leaf) + same z (c .node) ≡ uses z (x .0)
-  cut-free z = omega (arith, ap (same z) (r (x .0) sole .leaf), ap (same z) (r (x .0) sole .node), r (x .0) sole .many z)
-
-  cut-fresh : Fresh m′ (c .root) (c .leaf) (c .node) t
-  cut-fresh =
-      let s = r (x .0) sole in
-      record {
-        stands = s .stands;
-        once = λ z. omega (arith, cut-free z, x .1 .once z);
-        even = even-remove key (x .0) (x .1 .even);
-        low = omega (arith, s .high, short m root used high h (x .0) (x .1));
-        room-leaf = within-kept _ m m′ (s .kept) (c .leaf) (within (x .0) m (c .leaf) (x .1 .stands .rep) (omega (arith, cut-free (c .leaf), same-self (c .leaf))));
-        room-node = within-kept _ m m′ (s .kept) (c .node) (within (x .0) m (c .node) (x .1 .stands .rep) (omega (arith, cut-free (c .node), same-self (c .node))));
+        stands = x .1 .stands;
+        once = λ z. elim (ℕ-discrete z n) [
+          | yes i ↦ omega (arith, x .1 .free z (omega arith), same-other z 0 (λ j. omega arith), same-most z n)
+          | no i ↦ omega (arith, x .1 .once z, same-other z n i)
+        ];
+        even = x .1 .even;
+        low = short m n (omega arith) (x .0) (x .1);
       }
 
-  pub cut-ready : Ready m′ (c .root) (c .leaf) (c .node)
-  cut-ready = (t, cut-fresh)
+  pub insertable : bytes ≤ length m → Insertable m rootSeat k e n
+  insertable l = record { ready = (x .0, begun); left = omega arith; right = omega arith }
 
-  pub cut-grown : (m″ : List ℕ) (k e r′ : ℕ) → Inserts (c .root) k e (c .leaf) (c .node) r′ m′ m″ → Has m″ r′ used (high + 1)
-  cut-grown m″ k e r′ i =
-      let s = r (x .0) sole in
-      let g = i t cut-fresh in (
-        insert k e (c .leaf) (c .node) t,
+  pub grown : (m′ : List ℕ) → Becomes (adding k e n) rootSeat m m′ → Has m′ (n + 1)
+  grown m′ b =
+      let w : (z : ℕ) → uses z (insert k e n (x .0)) ≡ uses z (x .0) + same z n = λ z. omega (arith, weight-insert (λ j v. 0) (same z) k e n (x .0)) in (
+        insert k e n (x .0),
         record {
-          stands = g .stands;
-          once = λ z. omega (arith, g .many z, cut-free z, x .1 .once z);
-          free = λ z y. omega (arith, g .many z, cut-free z, x .1 .free z y);
-          even = even-insert k e (c .leaf) (c .node) t (even-remove key (x .0) (x .1 .even));
-          few = omega (arith, size-insert k e (c .leaf) (c .node) t, size-less key (x .0), x .1 .few);
+          stands = b (x .0) begun .stands;
+          once = λ z. omega (arith, w z, begun .once z);
+          free = λ z y. omega (arith, w z, x .1 .free z (omega arith), same-other z n (λ i. omega arith));
+          even = even-insert k e n (x .0) (x .1 .even);
+          many = omega (arith, size-insert k e n (x .0), x .1 .many);
         },
       )
 
-pub ended : (m m′ : List ℕ) (root key e used high : ℕ) → high ≤ 30000 → Has m root used high → Sets root key e m m′ → Has m′ root used high
-ended m m′ root key e used high h x s =
-    let g = s (x .0) (lone m root used high h (x .0) (x .1)) in (
+-- ---- a void for another
+-- the seats at a place of a tree that stands
+inside : (t : Tree) (m : List ℕ) (s z : ℕ) → Stands m s t → 1 ≤ uses z t → Within m (2 * z) × Within m (2 * z + 1)
+inside (leaf k e) m s z a h = absurd (omega arith)
+inside (node q l r) m s z a h = elim (ℕ-discrete z q) [
+  | yes i ↦ rw i (within (left-stands a), within (right-stands a))
+  | no i ↦ elim (case-le 1 (uses z l)) [
+    | inl y ↦ inside l m (2 * q) z (left-stands a) (y .0)
+    | inr y ↦ inside r m (2 * q + 1) z (right-stands a) (omega (arith, same-other z q i))
+  ]
+]
+
+high : (t : Tree) → 2 ≤ size t → 1 ≤ height t
+high (leaf k e) h = absurd (omega arith)
+high (node q l r) h = omega arith
+
+pub inner : (m : List ℕ) → Has m voids → 1 ≤ nodeAt m rootSeat .height
+inner m x = omega (arith, tall (x .1 .stands), high (x .0) (omega (arith, x .1 .many)))
+
+module _ (m m′ : List ℕ) (key q : ℕ) (x : Has m voids) (r : Removes rootSeat key q m m′) where
+  abbrev t : Tree
+  t = remove key (x .0)
+
+  cut : (q ≡ above key (x .0)) × Changed (cutting key) rootSeat (x .0) m m′
+  cut = r (x .0) (begun-cutting key (lone m voids (omega arith) (x .0) (x .1)))
+
+  gone : (z : ℕ) → uses z t + same z q ≡ uses z (x .0)
+  gone z = omega (arith, ap (same z) (cut .0), weight-remove 0 (same z) key (x .0) (high (x .0) (omega (arith, x .1 .many))))
+
+  room : Within m (2 * q) × Within m (2 * q + 1)
+  room = inside (x .0) m rootSeat q (x .1 .stands) (omega (arith, gone q, same-self q))
+
+  module _ (k e : ℕ) where
+    again : Begun (adding k e q) m′ rootSeat t
+    again =
+        record {
+          stands = cut .1 .stands;
+          once = λ z. omega (arith, gone z, x .1 .once z);
+          even = even-remove key (x .0) (x .1 .even);
+          low = omega (arith, height-remove key (x .0), short m voids (omega arith) (x .0) (x .1));
+        }
+
+    pub cut-insertable : Insertable m′ rootSeat k e q
+    cut-insertable =
+        record {
+          ready = (t, again);
+          left = within-kept _ m m′ (cut .1 .kept) (2 * q) (room .0);
+          right = within-kept _ m m′ (cut .1 .kept) (2 * q + 1) (room .1);
+        }
+
+    pub cut-grown : (m″ : List ℕ) → Becomes (adding k e q) rootSeat m′ m″ → Has m″ voids
+    cut-grown m″ b =
+        let w : (z : ℕ) → uses z (insert k e q t) ≡ uses z (x .0) = λ z. omega (arith, weight-insert (λ j v. 0) (same z) k e q t, gone z) in (
+          insert k e q t,
+          record {
+            stands = b t again .stands;
+            once = λ z. omega (arith, w z, x .1 .once z);
+            free = λ z y. omega (arith, w z, x .1 .free z y);
+            even = even-insert k e q t (even-remove key (x .0) (x .1 .even));
+            many = omega (arith, size-insert k e q t, size-remove key (x .0) (omega (arith, x .1 .many)), x .1 .many);
+          },
+        )
+
+pub ended : (m m′ : List ℕ) (key e : ℕ) → Has m voids → Becomes (ending key e) rootSeat m m′ → Has m′ voids
+ended m m′ key e x b =
+    let w : (z : ℕ) → uses z (setEnd key e (x .0)) ≡ uses z (x .0) = λ z. weight-set 0 (same z) key e (x .0) in (
       setEnd key e (x .0),
       record {
-        stands = g .stands;
-        once = λ z. omega (arith, g .many z, x .1 .once z);
-        free = λ z y. omega (arith, g .many z, x .1 .free z y);
+        stands = b (x .0) (begun-ending key e (lone m voids (omega arith) (x .0) (x .1))) .stands;
+        once = λ z. omega (arith, w z, x .1 .once z);
+        free = λ z y. omega (arith, w z, x .1 .free z y);
         even = even-set key e (x .0) (x .1 .even);
-        few = omega (arith, size-set key e (x .0), x .1 .few);
+        many = omega (arith, size-set key e (x .0), x .1 .many);
       },
     )

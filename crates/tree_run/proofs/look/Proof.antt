@@ -1,18 +1,18 @@
 -- `tree_run::look`: the tree stays as it is. Assumes nothing.
-use mathlib.Core.Path.{_≡_, refl, _∙_}
 use native.Mathlib.Omega.{arith}
-use lib.ListN.{length}
 use borrow.Author.Needs.{needs}
-use Prim.Native.Nat.{ℕ, _+_, _*_, _-_, _≤_, _<_}
+use mathlib.Core.Path.{_≡_, refl, _∙_}
+use Prim.Native.Nat.{_-_, _≤_}
+use lib.ListN.{length}
 use Rattle.tree_run.proofs.Steps.{searchable}
 use Rattle.tree_run.proofs.look.Statement.{statement}
 use Rattle.tree_run.proofs.look.Tie as tie
 
 abbrev Inv-loop : tie.InvT-loop
-Inv-loop mem root way₀ digest₀ i₀ way digest i = (i ≤ 10000) × (length way ≡ length way₀)
+Inv-loop mem way₀ digest₀ i₀ way digest i = (i ≤ 10000) × (length way ≡ length way₀)
 
 abbrev μ-loop : tie.MeasureT-loop
-μ-loop mem root way₀ digest₀ i₀ way digest i = 10000 - i
+μ-loop mem way₀ digest₀ i₀ way digest i = 10000 - i
 
 loop-holds : tie.Need-loop-holds Inv-loop μ-loop
 loop-holds c = (omega arith, refl)
@@ -30,7 +30,7 @@ add-search : tie.Need-add-search Inv-loop μ-loop
 add-search c = omega (arith, c .moment .ensures)
 
 search-requires : tie.Need-search-requires Inv-loop μ-loop
-search-requires c κs = (searchable _ _ _ _ (c .before .before .before .loop .way) (omega arith) (omega (arith, c .before .before .before .before .before .before .pre .1, c .before .before .before .loop .inv .1)) (c .before .before .before .before .before .before .pre .0), omega (arith, c .before .moment .ensures))
+search-requires c κs = (searchable _ (c .before .before .before .loop .way) (omega (arith, c .before .before .before .before .before .before .pre .1, c .before .before .before .loop .inv .1)) (c .before .before .before .before .before .before .pre .0), omega (arith, c .before .moment .ensures))
 
 mix-requires : tie.Need-mix-requires Inv-loop μ-loop
 mix-requires c κs = search needs
@@ -47,11 +47,11 @@ loop-less c = omega arith
 loop-again : tie.Need-loop-again Inv-loop μ-loop
 loop-again c = (omega arith, c .before .before .before .before .search .kept .1 .1 .1 .1 .0 ∙ c .before .before .before .before .before .before .before .before .loop .inv .1)
 
-returns : tie.Need-returns Inv-loop μ-loop
-returns c = search needs
-
 same-length : tie.Need-same-length Inv-loop μ-loop
 same-length c = c .before .loop .inv .1
+
+returns : tie.Need-returns Inv-loop μ-loop
+returns c = search needs
 
 pub look-spec : {M : Type 1} → statement M
 look-spec =

@@ -1,8 +1,7 @@
 -- `tree_run::main`: what grew is searched, exchanged and searched again. Assumes nothing.
 use native.Mathlib.Omega.{arith}
-use Rattle.node.proofs.Reps.{within}
-use Rattle.tree_run.proofs.Steps.{higher}
 use borrow.Author.Needs.{needs}
+use Rattle.node.proofs.Reps.{within}
 use Rattle.tree_run.proofs.main.Statement.{statement}
 use Rattle.tree_run.proofs.main.Tie as tie
 
@@ -19,7 +18,7 @@ slice-aggregate-look-2 : tie.Need-slice-aggregate-look-2
 slice-aggregate-look-2 c = search needs
 
 look-requires : tie.Need-look-requires
-look-requires c κs = (higher _ _ _ _ _ _ (omega arith) (omega arith) (c .before .before .before .grow .ensures), omega arith)
+look-requires c κs = (c .before .before .before .grow .ensures, omega arith)
 
 say-requires : tie.Need-say-requires
 say-requires c κs = search needs

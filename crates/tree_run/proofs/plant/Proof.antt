@@ -1,16 +1,9 @@
 -- `tree_run::plant`: one leaf stands. Assumes nothing.
 use native.Mathlib.Omega.{arith}
-use mathlib.Core.Path.{refl}
 use Rattle.tree_run.proofs.Steps.{planted}
 use borrow.Author.Needs.{needs}
 use Rattle.tree_run.proofs.plant.Statement.{statement}
 use Rattle.tree_run.proofs.plant.Tie as tie
-use Rattle.tree_run.proofs.plant.Reads as reads
-use Rattle.tree_run.proofs.plant.Lts as lts
-use Rattle.node.proofs.leaf.Reads as leaf-reads
-use Rattle.node.proofs.save.Reads as save-reads
-use Rattle.tree_run.proofs.end.Reads as end-reads
-use Rattle.tree_run.proofs.key.Reads as key-reads
 
 key-requires : tie.Need-key-requires
 key-requires c κs = search needs
