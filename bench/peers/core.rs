@@ -9,8 +9,13 @@ extern "C" {
     fn link_sweep(memory: *mut u8, bytes: usize, moment: u64) -> Answer;
 }
 
+/// Memory that starts at a multiple of 64 bytes, so that a place is one line of the cache.
+#[derive(Clone, Copy)]
+#[repr(align(64))]
+struct Line([u8; 64]);
+
 pub struct Core {
-    pub memory: Vec<u8>,
+    pub memory: &'static mut [u8],
     pub tally: Tally,
     records: Vec<u8>,
     pub answers: Vec<u64>,
@@ -18,8 +23,10 @@ pub struct Core {
 
 impl Core {
     pub fn open(stream: &Stream) -> Core {
-        let mut memory = vec![0; curlywether::need(stream.room)];
-        let opened = curlywether::open(&mut memory, stream.room, &stream.opening());
+        let bytes = curlywether::need(stream.room);
+        let lines = Box::leak(vec![Line([0; 64]); bytes.div_ceil(64)].into_boxed_slice());
+        let mut memory = unsafe { std::slice::from_raw_parts_mut(lines.as_mut_ptr() as *mut u8, bytes) };
+        let opened = curlywether::open(&mut memory[..], stream.room, &stream.opening());
         assert_eq!(opened.code, 0, "the opening");
         let answers = vec![u64::MAX; 7 * stream.orders.len()];
         Core { memory, tally: Tally::default(), records: stream.records(), answers }
