@@ -27,7 +27,7 @@ Many (suc n) W = (c : ℕ) × (s : ℕ) × (e : ℕ) × W c s e × Many n (λ c�
 
 -- "The voids are the leaves of a binary tree, from left to right by rising start, equal starts by falling channel"
 abbrev pub Leaves : Voids → Tree → Type 0
-Leaves W T = Ord 0 (openEnd * perTick) T × ((c s e : ℕ) → W c s e ↔ ((p : ℕ) × (k : ℕ) × In p k e T × (channelOf k ≡ c) × (startOf k ≡ s)))
+Leaves W T = Ord 0 (openEnd * perTick) T × ((c s e : ℕ) → W c s e ↔ ((k : ℕ) × In k e T × (channelOf k ≡ c) × (startOf k ≡ s)))
 
 -- (3) "at most t(8⌊log2 m⌋+1)": n visits for t starts tried, with m voids kept
 abbrev pub Bounded : (m t n : ℕ) → Type 0

@@ -113,11 +113,11 @@ module _ (a b : ℕ) (T : Tree) (o : Ord a b T) (B : Balanced T) (W : Voids) (f 
       go none q further =
           let e : n + (v + (seek T (hold g l) xs) .count) ≡ n + v + (seek T (hold g l) xs) .count = omega arith in
           rw (q, e) (inl (no-fit-as (VoidsIn T) W f r k (search-nothing a b r k T o q), further (bounded r k t n h)))
-      go (some p j e) q further = rw q (inr (
+      go (some j e) q further = rw q (inr (
         channelOf j,
         startOf j,
         e,
-        min-sv-as (VoidsIn T) W f r k (channelOf j) (startOf j) e (search-taken a b r k T o p j e q),
+        min-sv-as (VoidsIn T) W f r k (channelOf j) (startOf j) e (search-taken a b r k T o j e q),
         bounded r k t n h,
         taken-seven (tooMany g floor (size T) r k (startOf j) e) (channelOf j) (x .line) r (r + l) (n + v),
       ))
@@ -131,8 +131,8 @@ module _ (s : State) (S : Sound s) (W : Voids) (f : (c b e : ℕ) → Has (voids
   leaves = (
     S .ordered,
     (λ c b e. (
-      (λ w. let v = inside c b e .1 w in (v .place, v .key, v .inside, v .channel, v .start)),
-      (λ v. inside c b e .0 (record { place = v .0; key = v .1; inside = v .2; channel = v .3; start = v .4 })),
+      (λ w. let v = inside c b e .1 w in (v .key, v .inside, v .channel, v .start)),
+      (λ v. inside c b e .0 (record { key = v .0; inside = v .1; channel = v .2; start = v .3 })),
     )),
   )
 

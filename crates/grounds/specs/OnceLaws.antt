@@ -30,11 +30,11 @@ once-joined (x ∷ xs) ys a b d = (
 )
 
 pub once-voids : (a b : ℕ) (t : Tree) → Ord a b t → Once (voidsOf t)
-once-voids a b (leaf p k e) o = ((λ h. h), tt)
+once-voids a b (leaf k e) o = ((λ h. h), tt)
 once-voids a b (node p l r) o = once-joined (voidsOf l) (voidsOf r) (once-voids _ _ l (o .0)) (once-voids _ _ r (o .1)) (λ c s e i j.
     let v = has-voids c s e l .0 i in
     let w = has-voids c s e r .0 j in
-    omega (arith, key-is (v .key), key-is (w .key), v .channel, v .start, w .channel, w .start, in-ord _ _ l (o .0) _ _ _ (v .inside), in-ord _ _ r (o .1) _ _ _ (w .inside)))
+    omega (arith, key-is (v .key), key-is (w .key), v .channel, v .start, w .channel, w .start, in-ord _ _ l (o .0) _ _ (v .inside), in-ord _ _ r (o .1) _ _ (w .inside)))
 
 -- ---- a list without a void that it has
 record Without (x : Void) (ys : List Void) : Type 0 where

@@ -123,8 +123,8 @@ module _ (m : List ℕ) (s : State) (W : Sound s) (H : Holds m s) where
       C .bound w (subst (λ (y : Told). Log2 (y .voids) w) e L)
 
   -- "for each start tried the void taken is the leaf where this search ends, and .. where it ends at no leaf that fits, none fits"
-  pub search-ends : (r f p k e : ℕ) → (published r f (s .tree)) .out ≡ some p k e → MinSV (VoidsIn (s .tree)) r f (channelOf k) (startOf k) e
-  search-ends r f p k e q = search-taken 0 mostKey r f (s .tree) (W .ordered) p k e q
+  pub search-ends : (r f k e : ℕ) → (published r f (s .tree)) .out ≡ some k e → MinSV (VoidsIn (s .tree)) r f (channelOf k) (startOf k) e
+  search-ends r f k e q = search-taken 0 mostKey r f (s .tree) (W .ordered) k e q
 
   pub search-fails : (r f : ℕ) → (published r f (s .tree)) .out ≡ none → NoFit (VoidsIn (s .tree)) r f
   search-fails r f q = search-nothing 0 mostKey r f (s .tree) (W .ordered) q
