@@ -76,8 +76,9 @@ mutants = [
  ("reads past the record", K, "match model::open(n, room, sl(r, len))", "if len > 0 { std::hint::black_box(std::ptr::read_volatile(r.add(len))); } match model::open(n, room, sl(r, len))"),
 ]
 # these change nothing: a balanced tree keeps the height rule; distinct tree places and distinct spares of the right number are all places;
-# a place met twice gives leaves out of order; a height that falls by one cannot be 2^31
-SAME = ["kept is the number", "height rule", "every place accounted", "!seen[n.place], \"tree", "n.height <= 64"]
+# a place met twice in the tree gives leaves out of order; a height that falls by one cannot be 2^31; a spare place has a height that no
+# node of the tree has, and would have to say two numbers if it were twice among the spares
+SAME = ["!seen[place as usize], \"spares", "kept is the number", "height rule", "every place accounted", "!seen[n.place], \"tree", "n.height <= 64"]
 # every demand of the check of wholeness left out in turn
 text = open(os.path.join(src, L)).read()
 for line in text.split("\n"):
