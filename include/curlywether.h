@@ -32,8 +32,9 @@ enum curlywether_code {
     CURLYWETHER_NO_ROOM_FOR_ANSWER = 12 /* a run: bytes remain and fewer than seven numbers of room */
 };
 
-/* The bytes that a link of this room needs; 96 * room + 256 is always enough. Memory past the need is never written. */
-#define CURLYWETHER_NEED(room) (80 * (size_t)(room) + 248)
+/* The bytes that a link of this room needs; 96 * room + 256 is always enough. Memory past the need is never written.
+ * Any alignment is right. Memory that starts at a multiple of 64 bytes is fastest: a place of the room is then one line of the cache. */
+#define CURLYWETHER_NEED(room) (64 * (size_t)(room) + 256)
 
 static inline size_t curlywether_need(uint64_t room) {
     return CURLYWETHER_NEED(room);

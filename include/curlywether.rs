@@ -2,9 +2,9 @@
 //! `#[path = ".../include/curlywether.rs"] mod curlywether;`, linked with `-L target/staticlib -l static=door`.
 #![allow(dead_code)]
 
-/// The bytes that a link of this room needs.
+/// The bytes that a link of this room needs. Any alignment is right; memory that starts at a multiple of 64 bytes is fastest.
 pub const fn need(room: u64) -> usize {
-    80 * room as usize + 248
+    64 * room as usize + 256
 }
 
 /// The seven numbers of an answer. A refusal has 0 in all but code and count, a sweep in all but dropped.

@@ -12,8 +12,6 @@ extern "C" {
     fn link_whole(mem: *const u8, len: usize) -> bool;
 }
 
-const HEADER: usize = 26;
-
 fn word(mem: &[u8], i: usize) -> u64 {
     u64::from_le_bytes(mem[8 * i..8 * i + 8].try_into().unwrap())
 }
@@ -69,64 +67,86 @@ fn check(mem: &[u8], yes: bool) -> f64 {
     }) / times as f64
 }
 
-fn links(mem: &[u8], p: usize) -> (u64, usize, usize) {
-    let w = word(mem, HEADER + 5 * p + 4);
-    (w >> 32, (w >> 16 & 0xFFFF) as usize, (w & 0xFFFF) as usize)
+/// The root's seat. The children of a node with place q are at the seats 2q and 2q + 1.
+const ROOT: usize = 1;
+
+/// The word i of the node at a seat: lo, top, low, links.
+fn at(seat: usize, i: usize) -> usize {
+    24 + 4 * seat + i
 }
 
-fn link(mem: &mut [u8], p: usize, left: usize, right: usize) {
-    let height = links(mem, p).0;
-    put(mem, HEADER + 5 * p + 4, height << 32 | (left as u64) << 16 | right as u64);
+/// Height and place.
+fn links(mem: &[u8], seat: usize) -> (u64, usize) {
+    let w = word(mem, at(seat, 3));
+    (w >> 32, (w & 0xFFFF_FFFF) as usize)
 }
 
-/// The last inner node on the right edge, and the last void.
+fn link(mem: &mut [u8], seat: usize, place: usize) {
+    let height = links(mem, seat).0;
+    put(mem, at(seat, 3), height << 32 | place as u64);
+}
+
+/// The last inner node on the right edge, and the last void: their seats.
 fn last(mem: &[u8]) -> (usize, usize) {
-    let mut p = word(mem, 5) as usize;
+    let mut seat = ROOT;
     loop {
-        let right = links(mem, p).2;
+        let right = 2 * links(mem, seat).1 + 1;
         if links(mem, right).0 == 0 {
-            return (p, right);
+            return (seat, right);
         }
-        p = right;
+        seat = right;
     }
 }
 
-/// Every inner node leads twice to its left child: as many ways as a tree of that height can have.
+/// Every inner node has its left child twice, and all sums agree: as many ways as a tree of that height can have.
 fn shared(mem: &[u8]) -> Vec<u8> {
     let mut bad = mem.to_vec();
-    let mut open = vec![word(mem, 5) as usize];
-    while let Some(p) = open.pop() {
-        let (height, left, right) = links(mem, p);
-        if 0 < height {
-            link(&mut bad, p, left, left);
-            open.extend([left, right]);
+    let mut edge = vec![ROOT];
+    while 0 < links(mem, edge[edge.len() - 1]).0 {
+        edge.push(2 * links(mem, edge[edge.len() - 1]).1);
+    }
+    for pair in edge.windows(2).rev() {
+        let (seat, left) = (pair[0], pair[1]);
+        let over = (links(&bad, left).0 + 1) << 32 | left as u64 / 2;
+        for i in 0..4 {
+            let value = word(&bad, at(left, i));
+            put(&mut bad, at(left + 1, i), value);
+            put(&mut bad, at(seat, i), if i < 3 { value } else { over });
         }
     }
     bad
 }
 
-/// One void is shared, at the far end: found only when everything before it was walked.
+/// One place is shared, at the far end: found only when everything before it was walked. The last inner node leads to the children of
+/// another one of its height, the first of them.
 fn shared_last(mem: &[u8]) -> Vec<u8> {
     let mut bad = mem.to_vec();
-    let p = last(mem).0;
-    let left = links(mem, p).1;
-    link(&mut bad, p, left, left);
-    bad
+    let seat = last(mem).0;
+    let mut open = vec![ROOT];
+    while let Some(other) = open.pop() {
+        let (height, place) = links(mem, other);
+        if height == links(mem, seat).0 && other != seat {
+            link(&mut bad, seat, place);
+            return bad;
+        }
+        if 0 < height {
+            open.extend([2 * place + 1, 2 * place]);
+        }
+    }
+    panic!("no other node of that height")
 }
 
 /// A cycle at the far end.
 fn cycle(mem: &[u8]) -> Vec<u8> {
     let mut bad = mem.to_vec();
-    let p = last(mem).0;
-    let left = links(mem, p).1;
-    link(&mut bad, p, left, word(mem, 5) as usize);
+    link(&mut bad, last(mem).0, links(mem, ROOT).1);
     bad
 }
 
 /// The last void's greatest end lies.
 fn lying(mem: &[u8]) -> Vec<u8> {
     let mut bad = mem.to_vec();
-    let at = HEADER + 5 * last(mem).1 + 2;
+    let at = at(last(mem).1, 1);
     put(&mut bad, at, word(mem, at) - 1);
     bad
 }

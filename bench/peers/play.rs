@@ -24,7 +24,7 @@ use Contender::*;
 pub const ALL: [Contender; 5] = [Core, Scan, Map, Avl, Horizon];
 
 type Tree<S, const BULK: bool, const SMOOTH: bool, const ONE: bool> = leaves::Leaves<S, BULK, SMOOTH, ONE>;
-/// As the core lays its nodes out; without the least key; with the sums in the parent.
+/// As the core laid its nodes out at first, 40 bytes each; without the least key; with the sums in the parent, two to a line of the cache.
 type Plain = Alike<1>;
 type Short = Alike<0>;
 

@@ -5,7 +5,7 @@ import sys
 from ctypes import CDLL, POINTER, Structure, c_char_p, c_size_t, c_uint8, c_uint64
 
 ROOM = 256
-NEED = 80 * ROOM + 248
+NEED = 64 * ROOM + 256
 OPENING = bytes.fromhex("4F4C 02 01 000003E8 000000000000 00000005")  # OL 2 channels, leap 1000, floor 0, delay 5
 ORDERS = bytes.fromhex(
     "4F42 00000000000A 00000005 0000"  # OB 10, 5, 0

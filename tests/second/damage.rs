@@ -1,52 +1,58 @@
 //! The ways to spoil a memory: a word, a node and all above it, the spares, or a link that breaks one rule.
 
-use crate::layout::{set_word, word, Crooked, HEADER, NODE};
+use crate::layout::{at, link_spares, set_word, word, Crooked, HEADER, NODE, ROOT};
 use crate::model::{need, Link, Void, LAST_MOMENT, OPEN_END, TOP32};
 use crate::random::Rng;
 
 pub fn change_word(rng: &mut Rng, memory: &mut [u8], link: &Link) {
     let words = need(link.room) / 8;
-    let node_word = |rng: &mut Rng, i: u64| HEADER as u64 + NODE as u64 * rng.below(2 * link.room + 1) + i;
-    let at = match rng.below(4) {
-        0 => rng.below(HEADER as u64),
-        1 => node_word(rng, 4),
-        _ => rng.below(words),
-    } as usize;
-    let old = word(memory, at);
+    let spot = match rng.below(4) {
+        0 => rng.below(HEADER as u64) as usize,
+        1 => at(rng.span(1, 2 * link.room + 1) as usize, 3),
+        _ => rng.below(words) as usize,
+    };
+    let old = word(memory, spot);
     let other = word(memory, rng.below(words) as usize);
-    let place = rng.below(2 * link.room + 2);
+    let place = rng.below(link.room + 2);
     let value = match rng.below(11) {
         0 => old.wrapping_add(1),
         1 => old.wrapping_sub(1),
         2 => other,
         3 => old ^ 1 << rng.below(64),
-        4 => old & !0xFFFF | place,
-        5 => old & !0xFFFF_0000 | place << 16,
+        4 => old & !TOP32 | place,
+        5 => old ^ place << 16, // the same place, read in 16 bits
         6 => old.wrapping_add(1 << 32),
         7 => old.wrapping_sub(1 << 32),
-        8 => old & !0xFFFF_FFFF | (old & 0xFFFF) << 16 | old >> 16 & 0xFFFF,
+        8 => old & !TOP32 | (2 * old + rng.below(2)) & TOP32, // a seat for a place
         9 => *rng.pick(&[0, 1, u64::MAX, TOP32, TOP32 + 1, OPEN_END, LAST_MOMENT, 1 << 63, 65, 4096, 4097]),
         _ => rng.next() >> rng.below(64),
     };
-    set_word(memory, at, value);
+    set_word(memory, spot, value);
+}
+
+fn swap_nodes(memory: &mut [u8], a: usize, b: usize) {
+    for i in 0..NODE {
+        let (x, y) = (word(memory, at(a, i)), word(memory, at(b, i)));
+        set_word(memory, at(a, i), y);
+        set_word(memory, at(b, i), x);
+    }
 }
 
 /// Changes one node of the tree and makes all above it agree with the change.
 pub fn lie(rng: &mut Rng, memory: &mut [u8]) {
-    let at = |place: usize, i: usize| HEADER + NODE * place + i;
-    let mut path = vec![word(memory, 5) as usize];
+    let place_of = |memory: &[u8], seat: usize| (word(memory, at(seat, 3)) & TOP32) as usize;
+    let mut path = vec![ROOT];
     loop {
         let here = *path.last().unwrap();
-        let links = word(memory, at(here, 4));
-        if links == 0 || rng.chance(1, 4) {
+        if word(memory, at(here, 3)) == 0 || rng.chance(1, 4) {
             break;
         }
-        path.push(if rng.chance(1, 2) { links >> 16 & 0xFFFF } else { links & 0xFFFF } as usize);
+        path.push(2 * place_of(memory, here) + rng.below(2) as usize);
     }
     let here = path.pop().unwrap();
-    let field = rng.below(7) as usize;
-    let links = word(memory, at(here, 4));
-    let other = word(memory, at(rng.below(3) as usize, rng.below(4) as usize));
+    let links = word(memory, at(here, 3));
+    let (leaf, place) = (links == 0, place_of(memory, here));
+    let other = word(memory, at(rng.span(1, 3) as usize, rng.below(3) as usize));
     let by = |rng: &mut Rng, old: u64| match rng.below(6) {
         0 => old.wrapping_add(1),
         1 => old.wrapping_sub(1),
@@ -55,95 +61,108 @@ pub fn lie(rng: &mut Rng, memory: &mut [u8]) {
         4 => other,
         _ => old ^ 1 << rng.below(64),
     };
-    match field {
-        0..=3 => {
+    let by_left = rng.chance(1, 2); // the least key below: the left child's, or the less of the two
+    let least = |l: u64, r: u64| if by_left { l } else { l.min(r) };
+    let room = word(memory, 0);
+    match rng.below(8) as usize {
+        field @ 0..=2 => {
             let value = by(rng, word(memory, at(here, field)));
             set_word(memory, at(here, field), value);
         }
-        4 => set_word(memory, at(here, 4), if rng.chance(1, 2) { links.wrapping_add(1 << 32) } else { links.wrapping_sub(1 << 32) }),
-        5 => {
-            // a leaf's key, in both words; an inner node's children swapped
-            if links == 0 {
-                let value = by(rng, word(memory, at(here, 0)));
-                set_word(memory, at(here, 0), value);
-                set_word(memory, at(here, 1), value);
-            } else {
-                set_word(memory, at(here, 4), links & !0xFFFF_FFFF | (links & 0xFFFF) << 16 | links >> 16 & 0xFFFF);
-                if rng.chance(1, 2) {
-                    let value = word(memory, at((links >> 16 & 0xFFFF) as usize, 0));
-                    set_word(memory, at(here, 1), value);
-                }
+        3 => set_word(memory, at(here, 3), if rng.chance(1, 2) { links.wrapping_add(1 << 32) } else { links.wrapping_sub(1 << 32) }),
+        4 if !leaf => {
+            // the children swapped
+            swap_nodes(memory, 2 * place, 2 * place + 1);
+            let lo = least(word(memory, at(2 * place, 0)), word(memory, at(2 * place + 1, 0)));
+            set_word(memory, at(here, 0), lo);
+        }
+        5 if !leaf => {
+            // another place for the children: the root's, this node's own, its sibling's, a child's, a spare one, one past the room
+            let root = place_of(memory, ROOT);
+            let sibling = if here == ROOT { 0 } else { place_of(memory, here ^ 1) };
+            let child = place_of(memory, 2 * place + rng.below(2) as usize);
+            let spare = word(memory, 7) as usize;
+            let to = *rng.pick(&[0, root, here / 2, sibling, child, spare, room as usize + 1]) as u64;
+            set_word(memory, at(here, 3), links & !TOP32 | to);
+        }
+        6 if !leaf => {
+            // one child twice: the other is written over
+            let from = 2 * place + rng.below(2) as usize;
+            for i in 0..NODE {
+                let value = word(memory, at(from, i));
+                set_word(memory, at(from ^ 1, i), value);
             }
+        }
+        7 => set_word(memory, at(here, 3), if leaf { rng.span(1, room) } else { links & TOP32 }), // a place at height 0
+        4 => {
+            let value = by(rng, word(memory, at(here, 0))); // a leaf's key
+            set_word(memory, at(here, 0), value);
         }
         _ => {
-            // a leaf's end, in both words; an inner node with one child twice, or itself, or the root below it
-            if links == 0 {
-                let value = by(rng, word(memory, at(here, 2)));
-                set_word(memory, at(here, 2), value);
-                set_word(memory, at(here, 3), value);
-            } else {
-                let root = word(memory, 5);
-                let child = *rng.pick(&[links & 0xFFFF, links >> 16 & 0xFFFF, here as u64, root]);
-                let shift = 16 * rng.below(2);
-                set_word(memory, at(here, 4), links & !(0xFFFF << shift) | child << shift);
-            }
+            let value = by(rng, word(memory, at(here, 1))); // a leaf's end, in both words
+            set_word(memory, at(here, 1), value);
+            set_word(memory, at(here, 2), value);
         }
     }
-    for place in path.into_iter().rev() {
-        let links = word(memory, at(place, 4));
-        let (l, r) = ((links >> 16 & 0xFFFF) as usize, (links & 0xFFFF) as usize);
-        let w = |side: usize, i: usize| word(memory, at(side, i));
-        let height = 1 + (w(l, 4) >> 32).max(w(r, 4) >> 32);
-        let summary = [w(l, 0).min(w(r, 0)), w(r, 0), w(l, 2).max(w(r, 2)), w(l, 3).min(w(r, 3)), height << 32 | links & 0xFFFF_FFFF];
-        summary.into_iter().enumerate().for_each(|(i, value)| set_word(memory, at(place, i), value));
+    for seat in path.into_iter().rev() {
+        let q = place_of(memory, seat);
+        let w = |side: usize, i: usize| word(memory, at(2 * q + side, i));
+        let height = 1 + (w(0, 3) >> 32).max(w(1, 3) >> 32);
+        let sums = [least(w(0, 0), w(1, 0)), w(0, 1).max(w(1, 1)), w(0, 2).min(w(1, 2)), height << 32 | q as u64];
+        sums.into_iter().enumerate().for_each(|(i, value)| set_word(memory, at(seat, i), value));
     }
 }
 
 /// Changes the list of spares.
 pub fn spares(rng: &mut Rng, memory: &mut [u8], link: &Link) {
-    let links_at = |place: u64| HEADER + NODE * place as usize + 4;
-    let mut list = vec![word(memory, 7)];
-    let count = 2 * link.room + 2 - 2 * link.voids.len() as u64;
-    while (list.len() as u64) < count {
-        list.push(word(memory, links_at(*list.last().unwrap())) & 0xFFFF);
+    let links_at = |place: usize| at(2 * place, 3);
+    let mut list = vec![word(memory, 7) as usize];
+    let count = link.room as usize + 1 - link.voids.len();
+    while list.len() < count {
+        list.push((word(memory, links_at(*list.last().unwrap())) & TOP32) as usize);
     }
     let one = *rng.pick(&list);
     let old = word(memory, links_at(one));
-    match rng.below(9) {
-        0 => set_word(memory, 7, one),
+    match rng.below(12) {
+        0 => set_word(memory, 7, one as u64),
         1 => set_word(memory, links_at(one), old ^ 1 << 32),
-        2 => set_word(memory, links_at(one), old & !0xFFFF | *rng.pick(&list)),
-        3 => set_word(memory, links_at(*list.last().unwrap()), 1 << 63 | *rng.pick(&list)),
-        4 => set_word(memory, links_at(one) - 1 - rng.below(4) as usize, 1 << rng.below(64)),
+        2 => set_word(memory, links_at(one), old & !TOP32 | *rng.pick(&list) as u64),
+        3 => set_word(memory, links_at(*list.last().unwrap()), 1 << 63 | *rng.pick(&list) as u64),
+        4 => set_word(memory, at(2 * one, *rng.pick(&[0, 1, 4, 5, 6, 7])), 1 << rng.below(64)), // its left seat, or its right one
         5 => list.iter().for_each(|p| {
-            let old = word(memory, links_at(*p)); // all say one more
-            set_word(memory, links_at(*p), old + (1 << 16))
+            let old = word(memory, at(2 * p, 2)); // all say one more
+            set_word(memory, at(2 * p, 2), old + 1)
         }),
         6 => {
             // one spare left out, the others in good order
             let left_out = rng.below(list.len() as u64) as usize;
             list.remove(left_out);
-            relist(memory, &list);
+            link_spares(memory, &list);
         }
         7 => {
             // one spare twice in place of another
             let (i, j) = (rng.below(list.len() as u64) as usize, rng.below(list.len() as u64) as usize);
             list[i] = list[j];
-            relist(memory, &list);
+            link_spares(memory, &list);
         }
+        8 => {
+            let old = word(memory, at(2 * one, 2)); // how many come after
+            set_word(memory, at(2 * one, 2), old ^ 1 << rng.below(64));
+        }
+        9 => {
+            // any place, of the tree too, or past the room: the first or the next
+            let any = rng.span(1, link.room);
+            let to = *rng.pick(&[0, any, any, link.room + 1, one as u64 + (1 << 16), one as u64 + (1 << 31)]);
+            let spot = if rng.chance(1, 2) { 7 } else { links_at(one) };
+            let above = if spot == 7 { 0 } else { old & !TOP32 };
+            set_word(memory, spot, above | to);
+        }
+        10 => swap_nodes(memory, 2 * one, 2 * one + 1), // marked at its right seat
         _ => {
             // another order of the list: still whole
             rng.shuffle(&mut list);
-            relist(memory, &list);
+            link_spares(memory, &list);
         }
-    }
-}
-
-fn relist(memory: &mut [u8], list: &[u64]) {
-    set_word(memory, 7, list.first().copied().unwrap_or(0));
-    for (i, place) in list.iter().enumerate() {
-        let next = list.get(i + 1).copied().unwrap_or(0);
-        set_word(memory, HEADER + NODE * *place as usize + 4, 1 << 63 | ((list.len() - 1 - i) as u64) << 16 | next);
     }
 }
 

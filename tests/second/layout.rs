@@ -4,9 +4,15 @@
 use crate::random::Rng;
 use crate::model::{need, settings_in_bounds, Link, Void, OPEN_END};
 
-pub const HEADER: usize = 26;
-pub const NODE: usize = 5;
+pub const HEADER: usize = 28; // words
+pub const NODE: usize = 4;
+pub const ROOT: usize = 1; // the root's seat; the left child of a node with place q is at seat 2q, the right one at 2q + 1
 pub const SPARE_HEIGHT: u64 = 1 << 31;
+
+/// The word i of the node at a seat: lo, top, low, links. Seat 1 follows the header.
+pub fn at(seat: usize, i: usize) -> usize {
+    HEADER + NODE * (seat - 1) + i
+}
 
 pub fn word(memory: &[u8], i: usize) -> u64 {
     u64::from_le_bytes(memory[8 * i..8 * i + 8].try_into().unwrap())
@@ -23,27 +29,43 @@ pub fn key(void: &Void) -> u64 {
 #[derive(Clone, Copy)]
 pub struct Node {
     lo: u64,
-    split: u64,
     top: u64,
     low: u64,
     height: u64,
-    left: usize,
-    right: usize,
+    place: usize,
 }
 
 impl Node {
+    fn read(memory: &[u8], seat: usize) -> Node {
+        let [lo, top, low, links] = [0, 1, 2, 3].map(|i| word(memory, at(seat, i)));
+        Node { lo, top, low, height: links >> 32, place: (links & 0xFFFF_FFFF) as usize }
+    }
     fn is_leaf(&self) -> bool {
-        self.height == 0 && self.left == 0 && self.right == 0
+        self.height == 0 && self.place == 0
     }
     fn void(&self) -> Void {
         Void { channel: 1023 - self.lo % 1024, start: self.lo / 1024, end: self.top }
     }
 }
 
+/// The nodes of a memory by seat, from 1 to 2 * room + 1.
+struct Seats(Vec<Node>);
+
+impl Seats {
+    fn root(&self) -> Node {
+        self.0[ROOT - 1]
+    }
+    fn left(&self, place: usize) -> Node {
+        self.0[2 * place - 1]
+    }
+    fn right(&self, place: usize) -> Node {
+        self.0[2 * place]
+    }
+}
+
 /// A whole link as the memory holds it.
 pub struct Image {
-    nodes: Vec<Node>,
-    root: usize,
+    seats: Seats,
     pub link: Link, // voids from left to right
 }
 
@@ -55,42 +77,38 @@ fn demand(holds: bool, rule: &'static str) -> Result<(), &'static str> {
 pub fn whole(memory: &[u8]) -> Result<Image, &'static str> {
     demand(memory.len() >= 8 * HEADER, "as long as its room needs: header")?;
     let w = |i| word(memory, i);
-    let (room, channels, lines, leap, floor, root, kept, spare) = (w(0), w(1), w(2), w(3), w(4), w(5), w(6), w(7));
+    let (room, channels, lines, leap, floor, kept, spare) = (w(0), w(1), w(2), w(3), w(4), w(6), w(7));
     demand(lines <= 16, "settings: lines")?;
     let delays: Vec<u64> = (0..lines as usize).map(|i| w(8 + i)).collect();
     demand(settings_in_bounds(room, channels, leap, floor, &delays), "settings: bounds")?;
-    demand((lines as usize..18).all(|i| w(8 + i) == 0), "settings: unused words are 0")?;
+    demand(w(5) == 0, "settings: word 5 is 0")?;
+    demand((lines as usize..20).all(|i| w(8 + i) == 0), "settings: unused words are 0")?;
     demand(memory.len() as u64 >= need(room), "as long as its room needs")?;
     demand(1 <= kept && kept <= room, "kept from 1 to the room")?;
-    let places = 2 * room as usize + 1;
-    demand(root < places as u64 && spare < places as u64, "places: root and first spare")?;
-    let node = |p: usize| {
-        let at = HEADER + NODE * p;
-        let links = w(at + 4);
-        let (height, left, right) = (links >> 32, (links >> 16 & 0xFFFF) as usize, (links & 0xFFFF) as usize);
-        Node { lo: w(at), split: w(at + 1), top: w(at + 2), low: w(at + 3), height, left, right }
-    };
-    let image_nodes: Vec<Node> = (0..places).map(node).collect();
+    let seats = Seats((1..=2 * room as usize + 1).map(|seat| Node::read(memory, seat)).collect());
 
-    let mut seen = vec![false; places];
+    let mut seen = vec![false; room as usize + 1]; // the places, from 1
+    seen[0] = true; // place 0 is the root's alone
     let mut voids = vec![];
-    walk(&image_nodes, root as usize, &mut seen, &mut voids)?;
+    walk(&seats, seats.root(), &mut seen, &mut voids)?;
     demand(voids.len() as u64 == kept, "kept is the number of leaves")?;
     let allowed = 2 * (63 - kept.leading_zeros() as u64);
-    demand(image_nodes[root as usize].height <= allowed, "height rule")?;
+    demand(seats.root().height <= allowed, "height rule")?;
     demand(voids.windows(2).all(|pair| key(&pair[0]) < key(&pair[1])), "ordered leaves")?;
 
-    let spares = 2 * room + 2 - 2 * kept;
-    let mut place = spare as usize;
+    let spares = room + 1 - kept;
+    let mut place = spare;
     for after in (0..spares).rev() {
-        demand(place < places && !seen[place], "spares: each place once")?;
-        seen[place] = true;
-        let n = image_nodes[place];
-        demand(n.lo == 0 && n.split == 0 && n.top == 0 && n.low == 0, "spares: cleared")?;
-        demand(n.height == SPARE_HEIGHT, "spares: height")?;
-        demand(n.left as u64 == after, "spares: how many come after")?;
-        demand(after > 0 || n.right == 0, "spares: the last has no next")?;
-        place = n.right;
+        demand(1 <= place && place <= room, "spares: a place of the room")?;
+        demand(!seen[place as usize], "spares: each place once")?;
+        seen[place as usize] = true;
+        let (l, r) = (seats.left(place as usize), seats.right(place as usize));
+        demand(l.lo == 0 && l.top == 0, "spares: cleared")?;
+        demand(l.height == SPARE_HEIGHT, "spares: height")?;
+        demand(l.low == after, "spares: how many come after")?;
+        demand(after > 0 || l.place == 0, "spares: the last has no next")?;
+        demand(r.lo == 0 && r.top == 0 && r.low == 0 && r.is_leaf(), "spares: the right seat cleared")?;
+        place = l.place as u64;
     }
     demand(seen.iter().all(|s| *s), "every place accounted for")?;
 
@@ -105,30 +123,27 @@ pub fn whole(memory: &[u8]) -> Result<Image, &'static str> {
         demand(of.windows(2).all(|pair| pair[0].end < pair[1].start), "voids of one channel apart by a tick")?;
         demand(of.iter().filter(|void| void.end == OPEN_END).count() == 1, "one open end for each channel")?;
     }
-    Ok(Image { nodes: image_nodes, root: root as usize, link: Link { room, channels, delays, leap, floor, voids } })
+    Ok(Image { seats, link: Link { room, channels, delays, leap, floor, voids } })
 }
 
-/// Checks the subtree at a place (each place once, true summaries, heights), and lists its voids from left to right.
-fn walk(nodes: &[Node], place: usize, seen: &mut [bool], voids: &mut Vec<Void>) -> Result<(), &'static str> {
-    demand(place < nodes.len(), "places: a child")?;
-    demand(!seen[place], "tree: each place once")?;
-    seen[place] = true;
-    let n = nodes[place];
+/// Checks the subtree at a node (each place once, true summaries, heights), and lists its voids from left to right.
+fn walk(seats: &Seats, n: Node, seen: &mut [bool], voids: &mut Vec<Void>) -> Result<(), &'static str> {
     if n.is_leaf() {
-        demand(n.lo == n.split && n.top == n.low, "summaries: leaf")?;
+        demand(n.top == n.low, "summaries: leaf")?;
         voids.push(n.void());
         return Ok(());
     }
-    demand(n.left < nodes.len() && n.right < nodes.len(), "places: a child")?;
-    let (l, r) = (nodes[n.left], nodes[n.right]);
+    demand(1 <= n.place && n.place < seen.len(), "places: the children's")?;
+    let (l, r) = (seats.left(n.place), seats.right(n.place));
     demand(n.height == 1 + l.height.max(r.height), "tree: height")?;
     demand(l.height.abs_diff(r.height) <= 1, "tree: balance")?;
     // Heights fall at each step, but from a height that memory names: a spare's 2^31 must not be walked.
-    demand(n.height <= 64, "tree: height")?;
-    walk(nodes, n.left, seen, voids)?;
-    walk(nodes, n.right, seen, voids)?;
+    demand(n.height <= 64, "tree: height in bounds")?;
+    demand(!seen[n.place], "tree: each place once")?;
+    seen[n.place] = true;
+    walk(seats, l, seen, voids)?;
+    walk(seats, r, seen, voids)?;
     demand(n.lo == l.lo.min(r.lo), "summaries: lo")?;
-    demand(n.split == r.lo, "summaries: split")?;
     demand(n.top == l.top.max(r.top), "summaries: top")?;
     demand(n.low == l.low.min(r.low), "summaries: low")
 }
@@ -136,20 +151,20 @@ fn walk(nodes: &[Node], place: usize, seen: &mut [bool], voids: &mut Vec<Void>) 
 impl Image {
     /// 01's search for (r, f) in this tree: the void it ends at, if that fits, and the visits A + B + C.
     pub fn search(&self, r: u64, f: u64) -> (Option<Void>, u64) {
-        let mut at = self.nodes[self.root];
+        let mut at = self.seats.root();
         let mut visits = 1; // A: the root
         let mut marked = None; // the deepest so far
         while !at.is_leaf() {
             visits += 1; // A: the next node down
-            if at.split / 1024 <= r {
+            let (left, right) = (self.seats.left(at.place), self.seats.right(at.place));
+            if right.lo / 1024 <= r {
                 visits += 1; // B: the left child passed by
-                let passed = self.nodes[at.left];
-                if passed.top >= f {
-                    marked = Some(passed);
+                if left.top >= f {
+                    marked = Some(left);
                 }
-                at = self.nodes[at.right];
+                at = right;
             } else {
-                at = self.nodes[at.left];
+                at = left;
             }
         }
         if at.void().fits(r, f) {
@@ -158,10 +173,10 @@ impl Image {
         let Some(mut at) = marked else { return (None, visits) };
         while !at.is_leaf() {
             visits += 1; // C: the right child
-            let right = self.nodes[at.right];
+            let right = self.seats.right(at.place);
             if right.top < f {
                 visits += 1; // C: the left child
-                at = self.nodes[at.left];
+                at = self.seats.left(at.place);
             } else {
                 at = right;
             }
@@ -180,36 +195,40 @@ pub struct Crooked {
 }
 
 /// Lays the link out in `memory` (at least its need): any shape that the balancing rule allows, places and spares in any order.
-/// The settings are written as they are, in bounds or not. Needs 2 * voids - 1 places.
+/// The settings are written as they are, in bounds or not. Needs voids - 1 places.
 pub fn build(memory: &mut [u8], link: &Link, rng: &mut Rng, crooked: Crooked) {
-    let places = 2 * link.room as usize + 1;
-    let mut order: Vec<usize> = (0..places).collect();
+    let mut free: Vec<usize> = (1..=link.room as usize).rev().collect(); // the next is taken from the end
     if rng.chance(3, 4) {
-        rng.shuffle(&mut order);
+        rng.shuffle(&mut free);
     }
     let mut voids = link.ordered();
     if crooked.unsorted && voids.len() > 1 {
         let i = rng.below(voids.len() as u64 - 1) as usize;
         voids.swap(i, i + 1);
     }
-    memory[..8 * (HEADER + NODE * places)].fill(0);
+    memory[..need(link.room) as usize].fill(0);
     for (i, value) in [link.room, link.channels, link.delays.len() as u64, link.leap, link.floor].into_iter().enumerate() {
         set_word(memory, i, value);
     }
     for (i, delay) in link.delays.iter().enumerate() {
         set_word(memory, 8 + i, *delay);
     }
-    let mut free = order;
     let heights: Vec<u64> = (0..40).filter(|h| possible(voids.len() as u64, *h)).collect();
     let height = if crooked.unbalanced && voids.len() > 3 { (*rng.pick(&heights)).max(3) } else { *rng.pick(&heights) };
     let mut crook = crooked.unbalanced;
-    let root = plant(memory, &voids, height, &mut free, rng, &mut crook);
-    set_word(memory, 5, root as u64);
+    plant(memory, ROOT, &voids, height, &mut free, rng, &mut crook);
     set_word(memory, 6, voids.len() as u64);
-    set_word(memory, 7, free.first().copied().unwrap_or(0) as u64);
-    for (i, place) in free.iter().enumerate() {
-        let (after, next) = (free.len() - 1 - i, free.get(i + 1).copied().unwrap_or(0));
-        set_word(memory, HEADER + NODE * place + 4, (SPARE_HEIGHT << 32) + ((after as u64) << 16) + next as u64);
+    free.reverse();
+    link_spares(memory, &free);
+}
+
+/// Writes the list of spare places: their left seats (not what they hold beside) and the first of them.
+pub fn link_spares(memory: &mut [u8], list: &[usize]) {
+    set_word(memory, 7, list.first().copied().unwrap_or(0) as u64);
+    for (i, place) in list.iter().enumerate() {
+        let (after, next) = (list.len() - 1 - i, list.get(i + 1).copied().unwrap_or(0));
+        set_word(memory, at(2 * place, 2), after as u64);
+        set_word(memory, at(2 * place, 3), (SPARE_HEIGHT << 32) + next as u64);
     }
 }
 
@@ -222,17 +241,16 @@ fn possible(m: u64, height: u64) -> bool {
     fewest <= m && m <= 1 << height
 }
 
-fn plant(memory: &mut [u8], voids: &[Void], height: u64, free: &mut Vec<usize>, rng: &mut Rng, crook: &mut bool) -> usize {
-    let place = free.pop().expect("places for the tree");
-    let at = HEADER + NODE * place;
+/// A tree of these voids with its root at the seat.
+fn plant(memory: &mut [u8], seat: usize, voids: &[Void], height: u64, free: &mut Vec<usize>, rng: &mut Rng, crook: &mut bool) {
     let m = voids.len() as u64;
     if m == 1 {
-        let k = key(&voids[0]);
-        for (i, value) in [k, k, voids[0].end, voids[0].end, 0].into_iter().enumerate() {
-            set_word(memory, at + i, value);
+        for (i, value) in [key(&voids[0]), voids[0].end, voids[0].end, 0].into_iter().enumerate() {
+            set_word(memory, at(seat, i), value);
         }
-        return place;
+        return;
     }
+    let place = free.pop().expect("places for the tree");
     let mut ways = vec![];
     if *crook && m >= 4 && height >= 3 {
         // one child two lower than the other: the crook; then no more of them
@@ -261,14 +279,11 @@ fn plant(memory: &mut [u8], voids: &[Void], height: u64, free: &mut Vec<usize>, 
         }
     }
     let (left, hl, hr) = *rng.pick(&ways);
-    let l = plant(memory, &voids[..left as usize], hl, free, rng, crook);
-    let r = plant(memory, &voids[left as usize..], hr, free, rng, crook);
-    let child = |side: usize, i: usize| word(memory, HEADER + NODE * side + i);
-    let summary = [child(l, 0).min(child(r, 0)), child(r, 0), child(l, 2).max(child(r, 2)), child(l, 3).min(child(r, 3))];
-    let actual = 1 + (child(l, 4) >> 32).max(child(r, 4) >> 32);
-    for (i, value) in summary.into_iter().enumerate() {
-        set_word(memory, at + i, value);
+    plant(memory, 2 * place, &voids[..left as usize], hl, free, rng, crook);
+    plant(memory, 2 * place + 1, &voids[left as usize..], hr, free, rng, crook);
+    let (l, r) = (Node::read(memory, 2 * place), Node::read(memory, 2 * place + 1));
+    let links = (1 + l.height.max(r.height) << 32) + place as u64;
+    for (i, value) in [l.lo.min(r.lo), l.top.max(r.top), l.low.min(r.low), links].into_iter().enumerate() {
+        set_word(memory, at(seat, i), value);
     }
-    set_word(memory, at + 4, (actual << 32) + ((l as u64) << 16) + r as u64);
-    place
 }

@@ -10,7 +10,7 @@ pub const PROGRAM_BYTES: usize = 32_768;
 
 /// The stated need of a room, in bytes (for rooms in bounds).
 pub fn need(room: u64) -> u64 {
-    80 * room + 248
+    64 * room + 256
 }
 
 /// A channel, idle from `start` up to but not at `end`.

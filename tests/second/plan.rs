@@ -122,7 +122,7 @@ pub fn plan(seed: u64) -> Plan {
         let voids = rng.span(1, room);
         let voids = *rng.pick(&[room, voids]);
         let built = grown(rng, &mood, room, voids);
-        memory = need(room) as usize + *rng.pick(&[0, 0, 8, 100, 16 * room as usize + 8]) + rng.below(8) as usize;
+        memory = need(room) as usize + *rng.pick(&[0, 0, 8, 100, 32 * room as usize]) + rng.below(8) as usize;
         link = Some(built.clone());
         start = Start::Built { link: built, shape: rng.next() };
     } else {
@@ -138,14 +138,14 @@ pub fn plan(seed: u64) -> Plan {
             _ => rng.span(channels, 600),
         };
         let needed = need(room) as usize;
-        memory = needed + *rng.pick(&[0, 0, 0, 1, 8, 16 * room as usize + 8]) + rng.below(8) as usize;
+        memory = needed + *rng.pick(&[0, 0, 0, 1, 8, 32 * room as usize]) + rng.below(8) as usize;
         start = Start::Bytes(rng.next());
         steps.push(Step::Tell);
         steps.push(Step::Act(os(0)));
         for _ in 0..rng.below(4) {
-            let wild = [room, room, room, 0, channels - 1, 4097, 1 << 32, 1 << 63, u64::MAX, u64::MAX / 80, (1 << 60) + 1];
+            let wild = [room, room, room, 0, channels - 1, 4097, 1 << 32, 1 << 63, u64::MAX, u64::MAX / 64, (1 << 58) + 1, (1 << 60) + 1];
             let record = doubtful_opening(rng, &mood);
-            let bytes = *rng.pick(&[memory, memory, needed, needed - 1, needed - 8, 207, 1, 0]);
+            let bytes = *rng.pick(&[memory, memory, needed, needed - 1, needed - 8, needed - 64, 223, 1, 0]);
             steps.push(Step::Open { room: *rng.pick(&wild), bytes, record });
         }
         link = Some(open(needed, room, &first).unwrap().0);
@@ -196,13 +196,13 @@ pub fn plan(seed: u64) -> Plan {
             }
             35 => steps.push(Step::Tell),
             36 | 37 => {
-                let at = if rng.chance(1, 2) { rng.below(208) } else { rng.below(memory as u64) } as usize;
+                let at = if rng.chance(1, 2) { rng.below(224) } else { rng.below(memory as u64) } as usize;
                 let by = *rng.pick(&[1, 2, 4, 16, 128, 255]);
                 steps.push(Step::Spoil { at, by, order: order(rng, link, &mut mood) });
             }
             38 => {
                 let needed = need(link.room) as usize;
-                let bytes = *rng.pick(&[needed, needed - 1, needed - 8, needed / 2, 208, 207, 8, 0]);
+                let bytes = *rng.pick(&[needed, needed - 1, needed - 8, needed / 2, 256, 255, 224, 223, 8, 0]);
                 steps.push(Step::Short { bytes: bytes.min(needed), order: order(rng, link, &mut mood) });
             }
             _ => {

@@ -60,7 +60,7 @@ fn settle(rng: &mut Rng, bench: &mut Bench, most: u64, bytes: &mut usize, mood: 
     let voids = rng.span(1, room);
     let voids = *rng.pick(&[voids, room, room.saturating_sub(1)]);
     let link = grown(rng, mood, room, voids);
-    *bytes = need(room) as usize + *rng.pick(&[0, 0, 8, 48]) + rng.below(4) as usize;
+    *bytes = need(room) as usize + *rng.pick(&[0, 0, 8, 64]) + rng.below(4) as usize;
     bench.main.watch(*bytes);
     let memory = bench.main.lent(*bytes);
     memory.fill(0x3C);
@@ -114,7 +114,7 @@ pub fn spoil(bench: &mut Bench, seed: u64, seen: &mut Seen, spoiled: &mut Spoile
             }
             // the same memory with its end at the fence
             let all = case.memory().to_vec();
-            for lent in [0, 1, 7, 8, 207, 208, 247, 248, needed - 40, needed - 8, needed - 1, needed] {
+            for lent in [0, 1, 7, 8, 223, 224, 255, 256, needed - 64, needed - 32, needed - 8, needed - 1, needed] {
                 case.bytes = lent.min(all.len());
                 case.bench.main.watch(case.bytes);
                 case.memory().copy_from_slice(&all[..lent.min(all.len())]);
@@ -137,9 +137,9 @@ pub fn spoil(bench: &mut Bench, seed: u64, seen: &mut Seen, spoiled: &mut Spoile
                     }
                     _ => {
                         // small numbers everywhere, so that places are places
-                        for i in 5..needed / 8 {
+                        for i in *rng.pick(&[5, HEADER, HEADER])..needed / 8 {
                             if rng.chance(1, 6) {
-                                let value = rng.below(2 * link.room + 2) | rng.below(2 * link.room + 2) << 16 | rng.below(4) << 32;
+                                let value = rng.below(link.room + 2) | rng.below(4) << 32;
                                 set_word(case.memory(), i, value);
                             }
                         }
@@ -170,7 +170,7 @@ pub fn spoil(bench: &mut Bench, seed: u64, seen: &mut Seen, spoiled: &mut Spoile
         _ => {
             for _ in 0..60 {
                 let (way, crooked_link, crooked) = crook(rng, &link);
-                if 2 * crooked_link.voids.len() as u64 > 2 * crooked_link.room + 2 || crooked_link.voids.is_empty() {
+                if crooked_link.voids.len() as u64 > crooked_link.room + 1 || crooked_link.voids.is_empty() {
                     continue;
                 }
                 case.bytes = need(crooked_link.room) as usize + rng.below(9) as usize;
@@ -178,7 +178,8 @@ pub fn spoil(bench: &mut Bench, seed: u64, seen: &mut Seen, spoiled: &mut Spoile
                 build(case.memory(), &crooked_link, rng, crooked);
                 match way {
                     "an unused word set" => {
-                        let at = rng.span(8 + crooked_link.delays.len() as u64, 25) as usize;
+                        let after = rng.span(8 + crooked_link.delays.len() as u64, 27) as usize;
+                        let at = if rng.chance(1, 8) { 5 } else { after };
                         set_word(case.memory(), at, 1 << rng.below(64));
                     }
                     "the spares" => spares(rng, case.memory(), &crooked_link),

@@ -1,4 +1,4 @@
-//! The core's layout, and a shorter one: leaves and nodes alike, each with the sums of what is below it. Indices are unchecked.
+//! The core's layout before its places were pairs (`packed.rs` is nearer to it now), and a shorter one: leaves and nodes alike, each with the sums of what is below it. Indices are unchecked.
 use super::store::{Part, Store};
 
 fn at<T>(list: &[T], x: usize) -> &T {
@@ -11,7 +11,7 @@ fn at_mut<T>(list: &mut [T], x: usize) -> &mut T {
     unsafe { list.get_unchecked_mut(x) }
 }
 
-/// Leaves and nodes alike. With LEAST as the core's, 40 bytes: the least key too, and the split written from it. Without, 32 bytes, as
+/// Leaves and nodes alike. With LEAST, 40 bytes, as the core's were: the least key too, and the split written from it. Without, 32 bytes, as
 /// the split can stay with its node when it turns.
 #[derive(Clone, Copy)]
 struct Node<const LEAST: usize> {

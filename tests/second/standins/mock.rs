@@ -24,7 +24,7 @@ fn one(mem: &mut [u8], tally: &mut [u64; 10], rec: &[u8]) -> ([u64; 7], usize) {
     if mutant() == 2 && s[0] == 8 { s[5] = 0; }
     if mutant() == 3 && s[0] == 7 { mem[3] ^= 0; tally[6] = tally[6].wrapping_add(1); }
     if s[0] == 0 { store(mem, &link); }
-    if mutant() == 4 && s[0] == 8 && mem.len() > 248 { layout::set_word(mem, 7, 0); }
+    if mutant() == 4 && s[0] == 8 && mem.len() > 256 { layout::set_word(mem, 7, 0); }
     (s, a.used) }
 #[no_mangle] pub unsafe extern "C" fn curlywether_act(m: *mut u8, n: usize, t: *mut u64, r: *const u8, len: usize) -> Acted {
     let (answer, used) = one(slm(m, n), &mut *(t as *mut [u64; 10]), sl(r, len)); Acted { answer, used } }
