@@ -13,13 +13,15 @@ use Rattle.shape.specs.SizeLaws.{size-insert}
 use Rattle.node.specs.declared.Node.{Node}
 use Rattle.node.specs.Layout.{rootSeat, Within, nodeAt}
 use Rattle.node.proofs.Frames.{kept-less}
+use Rattle.tracing.specs.Ways.{Way}
+use Rattle.tracing.proofs.Alike.{alike-self, way-alike}
 use Rattle.rising.specs.Changes.{adding, Begun, Changed, Becomes}
 use Rattle.tree.specs.OnWays.{Insertable}
 use Rattle.state.specs.State.{State, first, rest, places, add}
 use Rattle.state.specs.Sound.{among, below}
 use Rattle.memory.specs.Header.{header}
 use Rattle.memory.specs.Holds.{Spares, After}
-use Rattle.memory.specs.Steps.{Link, Roomy}
+use Rattle.memory.specs.Steps.{Link, Roomy, Led}
 use Rattle.memory.specs.Part.{Part}
 use Rattle.memory.proofs.Parts.{below-most, part-seats, part-drop, part-first, part-put, part-tree, opened, closed}
 use Rattle.memory.proofs.Shortening.{few, room-is, kept-is}
@@ -47,6 +49,9 @@ one (p ∷ ps) h = refl
 -- there is room, by the words of the header
 pub roomy : (m : List ℕ) → Roomy m → word m 6 ≤ word m 0
 roomy m r = omega (arith, r .2, room-is m (r .0) (r .1), kept-is m (r .0) (r .1))
+
+pub roomy-led : (ws : List ℕ) (d k : ℕ) (m : List ℕ) → Led ws d k m → word m 6 ≤ word m 0
+roomy-led ws d k m r = roomy m (r .0, r .1, r .2)
 
 -- ---- one void more
 module _ (m : List ℕ) (s : State) (L : Link m s) (fit : word m 6 ≤ word m 0) where
@@ -90,6 +95,10 @@ module _ (m : List ℕ) (s : State) (L : Link m s) (fit : word m 6 ≤ word m 0)
         let i = part-seats m m n (header s) (s .tree) Q Z part-0 in
         let l = step-1 .1 .past .len in
         record { ready = (s .tree, begun); left = rw (step-1 .0) (omega (arith, i, l)); right = rw (step-1 .0) (omega (arith, i, l)) }
+
+    -- a way that was noted before the place was taken
+    pub still-leads : (ws : List ℕ) (d : ℕ) → Way m rootSeat k d ws → Way m1 rootSeat k d ws
+    still-leads ws d W = way-alike m m1 rootSeat k d ws W (s .tree) (s .tree) (L .holds .stands) (step-1 .1 .stands) (alike-self (s .tree))
 
     module _ (m2 : List ℕ) (g : Becomes (adding k e q) rootSeat m1 m2) where
       abbrev T : Tree

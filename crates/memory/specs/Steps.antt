@@ -7,6 +7,7 @@ use Rattle.shape.specs.Tree.{Balanced, Ord, size}
 use Rattle.shape.specs.Arrange.{above}
 use Rattle.node.specs.Layout.{rootSeat}
 use Rattle.node.specs.Paths.{longestWay, Reaches}
+use Rattle.tracing.specs.Ways.{Way}
 use Rattle.rising.specs.Changes.{cutting, Changed}
 use Rattle.state.specs.State.{State, shorten, add, drop, with-floor}
 use Rattle.state.specs.Sound.{mostKey}
@@ -40,6 +41,10 @@ Noted ws d k m = (s : State) × Noting m s ws d k
 -- one with room for a void more, and one with a void that may go
 abbrev pub Roomy : List ℕ → Type 0
 Roomy m = (s : State) × Link m s × (size (s .tree) ≤ s .settings .room)
+
+-- and the way that the key leads is noted, down to a leaf
+abbrev pub Led : List ℕ → (d k : ℕ) → List ℕ → Type 0
+Led ws d k m = (s : State) × Link m s × (size (s .tree) ≤ s .settings .room) × Way m rootSeat k d ws
 
 abbrev pub Several : List ℕ → Type 0
 Several m = (s : State) × Link m s × (2 ≤ size (s .tree))

@@ -7,7 +7,7 @@ ghost use Rattle.rule.specs.Settings.{mostRoom};
 ghost use Rattle.node.specs.Layout.{Within, nodeAt};
 ghost use Rattle.memory.specs.Header.{need};
 ghost use Rattle.memory.specs.Holds.{Gives};
-ghost use Rattle.memory.specs.Steps.{Some, Noted, Roomy, Several, CutOut, GivesBack, Shortens, Adds, Drops, Refloors};
+ghost use Rattle.memory.specs.Steps.{Some, Noted, Roomy, Led, Several, CutOut, GivesBack, Shortens, Adds, Drops, Refloors};
 use node::far;
 use node::near;
 use numbers::words::get;
@@ -80,6 +80,17 @@ pub fn add(mem: &mut [u8], key: u64, end: u64)
 {
     let q = take_spare(mem);
     tree::insert(mem, node::ROOT, key, end, q);
+    let kept = get(mem, KEPT);
+    put(mem, KEPT, kept + 1);
+}
+
+// One void more, to which the way noted leads.
+pub fn add_on(mem: &mut [u8], way: &[u16], depth: usize, key: u64, end: u64)
+    requires { ⌜ Led (now way) depth key (now mem) ⌝ }
+    ensures { λ _. ⌜ Adds key end (now (mem .entry)) (now (mem .exit)) ⌝ }
+{
+    let q = take_spare(mem);
+    tree::insert_on(mem, way, depth, key, end, q);
     let kept = get(mem, KEPT);
     put(mem, KEPT, kept + 1);
 }

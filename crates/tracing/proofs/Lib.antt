@@ -1,3 +1,4 @@
 pub mod Below
 pub mod Tracing
 pub mod Paths
+pub mod Alike

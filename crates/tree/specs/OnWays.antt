@@ -20,6 +20,13 @@ pub record Insertable (m : List ℕ) (t k e q : ℕ) : Type 0 where
   pub left : Within m (2 * q)
   pub right : Within m (2 * q + 1)
 
+-- its way being noted
+abbrev pub Growable : List ℕ → (d k e q : ℕ) → List ℕ → Type 0
+Growable ws d k e q m = (t : ℕ) × Way m t k d ws × Insertable m t k e q
+
+abbrev pub Grows : List ℕ → (d k e q : ℕ) → (m m′ : List ℕ) → Type 0
+Grows ws d k e q m m′ = (t : ℕ) → Way m t k d ws → Insertable m t k e q → Becomes (adding k e q) t m m′
+
 -- beside the leaf at seat s
 pub record Grafting (m : List ℕ) (s k e q : ℕ) : Type 0 where
   pub able : Insertable m s k e q

@@ -5,7 +5,7 @@ ghost use Rattle.node.specs.Layout.{nodeAt};
 ghost use Rattle.tracing.specs.Alone.{Alone};
 ghost use Rattle.tracing.specs.Ways.{Begins};
 ghost use Rattle.rising.specs.Changes.{adding, ending, Becomes};
-ghost use Rattle.tree.specs.OnWays.{SetsOn, Insertable, Removes, Cuttable, Cuts, Grafting};
+ghost use Rattle.tree.specs.OnWays.{SetsOn, Insertable, Growable, Grows, Removes, Cuttable, Cuts, Grafting};
 use node::far;
 use node::near;
 use rising::rise;
@@ -48,6 +48,15 @@ fn graft(mem: &mut [u8], s: usize, key: u64, end: u64, q: u64)
     summing::mend(mem, s, q);
 }
 
+// Puts a leaf into a tree, at the end of the way that its key leads, under a new node whose children stand at place q.
+pub fn insert_on(mem: &mut [u8], way: &[u16], depth: usize, key: u64, end: u64, q: u64)
+    requires { ⌜ Growable (now way) depth key end q (now mem) ⌝ }
+    ensures { λ _. ⌜ Grows (now (way .entry)) depth key end q (now (mem .entry)) (now (mem .exit)) ⌝ }
+{
+    graft(mem, way[depth] as usize, key, end, q);
+    rise(mem, way, depth);
+}
+
 // Puts a leaf into the tree at t, under a new node whose children stand at place q.
 pub fn insert(mem: &mut [u8], t: usize, key: u64, end: u64, q: u64)
     requires { ⌜ Insertable (now mem) t key end q ⌝ }
@@ -55,8 +64,7 @@ pub fn insert(mem: &mut [u8], t: usize, key: u64, end: u64, q: u64)
 {
     let mut way = [0u16; LONGEST_WAY];
     let depth = trace(mem, t, key, &mut way);
-    graft(mem, way[depth] as usize, key, end, q);
-    rise(mem, &way, depth);
+    insert_on(mem, &way, depth, key, end, q);
 }
 
 // Takes the leaf at the end of the key's way out of the tree: what is beside it goes where the node above them was. The place that is free.
