@@ -1,5 +1,5 @@
--- The search over the starts, as its loop has it, and its steps: after i delays the whole search is the one over the
--- delays left, with the visits so far.
+-- The search over the starts, as its loop has it, and its steps: at line i, and again after it, the whole search is the one
+-- over the starts left, with the visits so far. Line 0 is the undelayed start.
 use mathlib.Core.Path.{_≡_, sym, ap, subst, _∙_}
 use mathlib.Core.Bool.{Bool, true, false, false≢true}
 use mathlib.Core.List.{List, [], _∷_}
@@ -71,14 +71,24 @@ most = 4 * mostRoom + 1
 
 -- ---- all of them
 module _ (m : List ℕ) (r h p : ℕ) where
-  -- what the whole search comes to, and what is left of it after i delays
+  -- what the whole search comes to, and what is left of it after line i
   abbrev pub whole : State → Seeking
   whole s = seek (s .tree) h (starts (s .settings .delays) r h p)
 
-  abbrev pub left : State → ℕ → Seeking
-  left s i = seek (s .tree) h (delayed r h p i (drop i (s .settings .delays)))
+  abbrev pub later : State → ℕ → List Start
+  later s i = delayed r h p i (drop i (s .settings .delays))
 
-  pub record Going (count i : ℕ) : Type 0 where
+  abbrev pub left : State → ℕ → Seeking
+  left s i = seek (s .tree) h (later s i)
+
+  -- at line i, whose start b is tried if a says so
+  pub record At (count i b : ℕ) (a : Bool) : Type 0 where
+    pub rest : (s : State) → Holds m s → whole s ≡ after count (seek (s .tree) h (pick a (record { line = i; moment = b } ∷ later s i) (later s i)))
+    pub few : count ≤ i * most
+    pub early : a ≡ true → b + h ≤ lastMoment
+
+  -- after line i
+  pub record Past (count i : ℕ) : Type 0 where
     pub rest : (s : State) → Holds m s → whole s ≡ after count (left s i)
     pub few : count ≤ (i + 1) * most
 
@@ -100,80 +110,66 @@ module _ (m : List ℕ) (r h p : ℕ) where
   is : (s : State) → Holds m s → (b : ℕ) (x : Found) → Finds b x → x ≡ foundOf (x .noted) (published b (b + h) (s .tree))
   is s H b x g = g (s .tree) (H .stands)
 
-  few-visits : Whole m → (b : ℕ) (x : Found) → Finds b x → x .visits ≤ most
+  pub few-visits : Whole m → (b : ℕ) (x : Found) → Finds b x → x .visits ≤ most
   few-visits w b x g =
       let t = w .0 .tree in
       omega (arith, found-visits x (x .noted) (published b (b + h) t) (is (w .0) (w .2) b x g), search-visits b (b + h) t, low w)
 
-  -- the undelayed start
-  module _ (x : Found) (g : Finds r x) where
-    pub at-once : x .found ≡ true → (s : State) → Holds m s
-        → record { found = true; line = 0; start = r; key = x .key; end = x .end; count = x .visits; noted = x .noted } ≡ takenOf (x .noted) (whole s)
-    at-once y s H = simp zero-add at (fit x (published r (r + h) (s .tree)) (is s H r x g) 0 (record { line = 0; moment = r }) (left s 0) y)
+  -- the undelayed start is the first, and is tried
+  pub first : r + h ≤ lastMoment → At 0 0 r true
+  first l = record { rest = λ s H. simp zero-add; few = omega arith; early = λ _. l }
 
-    pub going-first : Whole m → x .found ≡ false → Going (x .visits) 0
-    going-first w y =
-        record {
-          rest = λ s H. simp zero-add at (past x (published r (r + h) (s .tree)) (is s H r x g) 0 (record { line = 0; moment = r }) (left s 0) y);
-          few = omega (arith, few-visits w r x g);
-        }
+  -- a line's start
+  module _ (count i b : ℕ) (a : Bool) (A : At count i b a) where
+    pub skipped : a ≡ false → Past count i
+    skipped e = record { rest = λ s H. rw e at (A .rest s H); few = omega (arith, A .few) }
 
-  -- a delay more
-  module _ (lines : ℕ) (el : lines ≡ word m 2) (count i : ℕ) (G : Going count i) where
+    module _ (e : a ≡ true) (x : Found) (g : Finds b x) where
+      here : (s : State) → Holds m s → let z = published b (b + h) (s .tree) in whole s ≡ after count (tryNext (record { line = i; moment = b }) (z .out) (z .visits) (left s i))
+      here s H = rw e at (A .rest s H)
+
+      pub taken-here : x .found ≡ true → (s : State) → Holds m s
+          → record { found = true; line = i; start = b; key = x .key; end = x .end; count = count + x .visits; noted = x .noted } ≡ takenOf (x .noted) (whole s)
+      taken-here y s H = rw (here s H) (fit x (published b (b + h) (s .tree)) (is s H b x g) count (record { line = i; moment = b }) (left s i) y)
+
+      pub missed : Whole m → x .found ≡ false → Past (count + x .visits) i
+      missed w y =
+          record {
+            rest = λ s H. here s H ∙ past x (published b (b + h) (s .tree)) (is s H b x g) count (record { line = i; moment = b }) (left s i) y;
+            few = omega (arith, A .few, few-visits w b x g);
+          }
+
+  -- on to the next line
+  module _ (lines : ℕ) (el : lines ≡ word m 2) where
     lines-are : (s : State) → Holds m s → lines ≡ length (s .settings .delays)
     lines-are s H = el ∙ H .heads 2 (omega arith)
 
-    -- none is left
-    pub nowhere-left : lines ≤ i → (s : State) → Holds m s → record { found = false; line = 0; start = 0; key = 0; end = 0; count = count; noted = 0 } ≡ takenOf 0 (whole s)
-    nowhere-left l s H =
-        let e : drop i (s .settings .delays) ≡ [] = drop-of-length-le (s .settings .delays) {i = i} (omega (arith, lines-are s H)) in
-        let z : whole s ≡ after count (seek (s .tree) h (delayed r h p i [])) = rw e at (G .rest s H) in
-        let n : count ≡ count + 0 = omega arith in
-        rw z (rw (← n))
+    pub few-lines : Whole m → lines ≤ mostLines
+    few-lines w = omega (arith, w .2 .lines, lines-are (w .0) (w .2))
 
-    module _ (w : Whole m) (li : i < lines) where
-      pub few-lines : i < mostLines
-      few-lines = omega (arith, w .2 .lines, lines-are (w .0) (w .2))
+    module _ (count i : ℕ) (P : Past count i) where
+      -- there is none
+      pub nowhere-left : i ≡ lines → (s : State) → Holds m s → record { found = false; line = 0; start = 0; key = 0; end = 0; count = count; noted = 0 } ≡ takenOf 0 (whole s)
+      nowhere-left l s H =
+          let e : drop i (s .settings .delays) ≡ [] = drop-of-length-le (s .settings .delays) {i = i} (omega (arith, lines-are s H)) in
+          let z : whole s ≡ after count (seek (s .tree) h (delayed r h p i [])) = rw e at (P .rest s H) in
+          let n : count ≡ count + 0 = omega arith in
+          rw z (rw (← n))
 
-      module _ (d : ℕ) (ed : d ≡ word m (8 + i)) where
+      module _ (w : Whole m) (li : i < lines) (d : ℕ) (ed : d ≡ word m (8 + i)) where
         delay-is : (s : State) → Holds m s → d ≡ getD (s .settings .delays) i 0
-        delay-is s H = ed ∙ ap (word m) (eight i) ∙ H .heads (suc (suc (suc (suc (suc (suc (suc (suc i)))))))) (omega (arith, few-lines)) ∙ padded-at 20 (s .settings .delays) i (omega (arith, few-lines))
+        delay-is s H = ed ∙ ap (word m) (eight i) ∙ H .heads (suc (suc (suc (suc (suc (suc (suc (suc i)))))))) (omega (arith, few-lines w)) ∙ padded-at 20 (s .settings .delays) i (omega (arith, few-lines w))
 
         pub short-delay : d ≤ longest
         short-delay = omega (arith, delay-is (w .0) (w .2), rising-at 0 (w .0 .settings .delays) (in-bounds (w .0 .settings) (w .1 .bounds) .delays) i)
 
-        next : (s : State) → Holds m s → whole s ≡ after count (seek (s .tree) h (delayed r h p i (d ∷ drop (suc i) (s .settings .delays))))
-        next s H =
-            let e : drop i (s .settings .delays) ≡ d ∷ drop (suc i) (s .settings .delays) =
-            drop-cons (s .settings .delays) i 0 (omega (arith, lines-are s H)) ∙ (rw (← delay-is s H)) in
-            rw e at (G .rest s H)
-
-        pub going-skipped : (b : Bool) → b ≡ tried r h p i d → b ≡ false → Going count (i + 1)
-        going-skipped b eb y = let q : tried r h p i d ≡ false = sym eb ∙ y in record { rest = λ s H. rw add-one (rw q at (next s H)); few = omega (arith, G .few) }
-
-        module _ (b : Bool) (eb : b ≡ tried r h p i d) (y : b ≡ true) where
-          q : tried r h p i d ≡ true
-          q = sym eb ∙ y
-
-          pub early : r + d + h ≤ lastMoment
-          early = tried-low r h p i d q
-
-          module _ (x : Found) (g : Finds (r + d) x) where
-            here : (s : State) → Holds m s → let z = published (r + d) (r + d + h) (s .tree) in whole s ≡ after count (tryNext (record { line = suc i; moment = r + d }) (z .out) (z .visits) (left s (suc i)))
-            here s H = rw q at (next s H)
-
-            pub few-more : (count ≤ (mostLines + 1) * most) × (x .visits ≤ most)
-            few-more = (omega (arith, G .few, few-lines), few-visits w (r + d) x g)
-
-            pub taken-here : x .found ≡ true → (s : State) → Holds m s
-                → record { found = true; line = i + 1; start = r + d; key = x .key; end = x .end; count = count + x .visits; noted = x .noted } ≡ takenOf (x .noted) (whole s)
-            taken-here z s H =
-                rw (add-one, here s H) (
-                fit x (published (r + d) (r + d + h) (s .tree)) (is s H (r + d) x g) count (record { line = suc i; moment = r + d }) (left s (suc i)) z)
-
-            pub going-past : x .found ≡ false → Going (count + x .visits) (i + 1)
-            going-past z =
-                record {
-                  rest = λ s H. rw add-one (here s H ∙ past x (published (r + d) (r + d + h) (s .tree)) (is s H (r + d) x g) count (record { line = suc i; moment = r + d }) (left s (suc i)) z);
-                  few = omega (arith, G .few, few-visits w (r + d) x g);
-                }
+        pub next : (a : Bool) → a ≡ tried r h p i d → At count (i + 1) (r + d) a
+        next a ea =
+            record {
+              rest = λ s H.
+                  let e : drop i (s .settings .delays) ≡ d ∷ drop (suc i) (s .settings .delays) =
+                  drop-cons (s .settings .delays) i 0 (omega (arith, lines-are s H)) ∙ (rw (← delay-is s H)) in
+                  rw (add-one, ea) (rw e at (P .rest s H));
+              few = omega (arith, P .few);
+              early = λ y. tried-low r h p i d (sym ea ∙ y);
+            }

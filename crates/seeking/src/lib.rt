@@ -55,30 +55,32 @@ fn nothing(count: u64) -> Taken
     }
 }
 
-// The starts tried, in their order, up to the first that has a fit.
+// The starts tried, in their order, up to the first that has a fit: the undelayed one, which is line 0, then each line's. The
+// search is called at one place, so that it is built in there.
 pub fn seek(mem: &[u8], arrival: u64, hold: u64, permitted: u64, way: &mut [u16]) -> Taken
     requires { ⌜ (arrival + hold ≤ lastMoment) × (hold ≤ longest) × (longestWay ≤ length (now way)) ⌝ }
     requires { ⌜ Whole (now mem) ⌝ }
     ensures { λ x. ⌜ Seeks arrival hold permitted x (now (mem .entry)) × Points (now (mem .entry)) (now (way .exit)) x ⌝ }
 {
     let lines = get(mem, memory::LINES) as usize;
-    let at_once = search::search(mem, node::ROOT, arrival, arrival + hold, way);
-    let mut count = at_once.visits;
-    if at_once.found {
-        return found_at(0, arrival, at_once, count);
-    }
-    let mut i: usize = 0;
-    while i < lines {
-        let d = get(mem, memory::DELAYS + i);
-        if ruling::starts::tried(arrival, hold, permitted, i as u64, d) {
-            let start = arrival + d;
+    let mut count = 0;
+    let mut line: usize = 0;
+    let mut start = arrival;
+    let mut tried = true;
+    loop {
+        if tried {
             let x = search::search(mem, node::ROOT, start, start + hold, way);
             count += x.visits;
             if x.found {
-                return found_at(i as u64 + 1, start, x, count);
+                return found_at(line as u64, start, x, count);
             }
         }
-        i += 1;
+        if line == lines {
+            return nothing(count);
+        }
+        let d = get(mem, memory::DELAYS + line);
+        start = arrival + d;
+        tried = ruling::starts::tried(arrival, hold, permitted, line as u64, d);
+        line += 1;
     }
-    nothing(count)
 }
