@@ -3,7 +3,7 @@ use mathlib.Core.Path.{_≡_, refl, sym, _∙_}
 use mathlib.Core.Logic.{inl, inr}
 use mathlib.Core.Bool.{Bool, true, false}
 use mathlib.Core.List.{List}
-use Prim.Native.Nat.{ℕ, _≤_}
+use Prim.Native.Nat.{ℕ, _≤_, _<_}
 use native.Mathlib.Omega.{arith}
 use lib.Dec.{leb}
 use Rattle.numbers.specs.Words.{word}
@@ -21,7 +21,11 @@ use Rattle.memory.specs.Holds.{Holds, After}
 use Rattle.memory.specs.Steps.{Link, Pointed, Noted, Roomy, Several, Shortens, Adds, Drops}
 use Rattle.shape.specs.SizeLaws.{size-set, size-insert}
 use Rattle.memory.proofs.Whole.{whole-link, floor-is, after-none, after-then}
-use Rattle.taking.specs.Take.{Splitting, overfull}
+use Rattle.node.specs.Layout.{rootSeat}
+use Rattle.tracing.specs.Ways.{Way}
+use Rattle.tracing.proofs.Alike.{alike-set, way-alike}
+use Rattle.shape.specs.Arrange.{setEnd}
+use Rattle.taking.specs.Take.{Splitting, Ahead, overfull}
 
 -- what a test of a piece says of the state
 pub piece : {m : List ℕ} {s : State} → Holds m s → (x : ℕ) → x ≡ word m 4 → (y a z : ℕ) → y ≡ a → (b v : Bool) → b ≡ kept x y z → b ≡ v → kept (s .floor) a z ≡ v
@@ -75,6 +79,12 @@ module _ (m : List ℕ) (k e r f : ℕ) (s : State) (S : Splitting s k e r f) (H
     pub roomy-front : kept (s .floor) (startOf k) r ≡ true → kept (s .floor) f e ≡ true → Roomy m1
     unfolding shorten
     roomy-front y z = (shorten s k r, short, omega (arith, S .room .less y z, size-set k r (s .tree)))
+
+    -- the way ahead is a way still: only an end has changed
+    pub ahead-front : (d after : ℕ) (ws : List ℕ) → Ahead f d after ws m → (n : ℕ) → Next n → n < after → Way m1 rootSeat n d ws
+    unfolding shorten
+    ahead-front d after ws A n i l =
+        way-alike m m1 rootSeat n d ws (A n (omega (arith, next-is n i)) l) (s .tree) (setEnd k r (s .tree)) (H .stands) (g s link .holds .stands) (alike-set k r (s .tree))
 
     pub split-front : kept (s .floor) (startOf k) r ≡ true → kept (s .floor) f e ≡ false → After m m1 (split s k e r f)
     unfolding split
