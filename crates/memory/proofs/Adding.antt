@@ -21,7 +21,7 @@ use Rattle.state.specs.State.{State, first, rest, places, add}
 use Rattle.state.specs.Sound.{among, below}
 use Rattle.memory.specs.Header.{header}
 use Rattle.memory.specs.Holds.{Spares, After}
-use Rattle.memory.specs.Steps.{Link, Roomy, Led}
+use Rattle.memory.specs.Steps.{Link, Led}
 use Rattle.memory.specs.Part.{Part}
 use Rattle.memory.proofs.Parts.{below-most, part-seats, part-drop, part-first, part-put, part-tree, opened, closed}
 use Rattle.memory.proofs.Shortening.{few, room-is, kept-is}
@@ -47,11 +47,8 @@ one [] h = absurd (omega arith)
 one (p ∷ ps) h = refl
 
 -- there is room, by the words of the header
-pub roomy : (m : List ℕ) → Roomy m → word m 6 ≤ word m 0
-roomy m r = omega (arith, r .2, room-is m (r .0) (r .1), kept-is m (r .0) (r .1))
-
 pub roomy-led : (ws : List ℕ) (d k : ℕ) (m : List ℕ) → Led ws d k m → word m 6 ≤ word m 0
-roomy-led ws d k m r = roomy m (r .0, r .1, r .2)
+roomy-led ws d k m r = omega (arith, r .2, room-is m (r .0) (r .1), kept-is m (r .0) (r .1))
 
 -- ---- one void more
 module _ (m : List ℕ) (s : State) (L : Link m s) (fit : word m 6 ≤ word m 0) where

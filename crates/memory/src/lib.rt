@@ -73,17 +73,6 @@ pub fn shorten(mem: &mut [u8], way: &mut [u16], noted: usize, key: u64, end: u64
     tree::set_end_on(mem, way, noted, key, end);
 }
 
-// One void more.
-pub fn add(mem: &mut [u8], key: u64, end: u64)
-    requires { ⌜ Roomy (now mem) ⌝ }
-    ensures { λ _. ⌜ Adds key end (now (mem .entry)) (now (mem .exit)) ⌝ }
-{
-    let q = take_spare(mem);
-    tree::insert(mem, node::ROOT, key, end, q);
-    let kept = get(mem, KEPT);
-    put(mem, KEPT, kept + 1);
-}
-
 // One void more, to which the way noted leads.
 pub fn add_on(mem: &mut [u8], way: &[u16], depth: usize, key: u64, end: u64)
     requires { ⌜ Led (now way) depth key (now mem) ⌝ }
@@ -93,6 +82,16 @@ pub fn add_on(mem: &mut [u8], way: &[u16], depth: usize, key: u64, end: u64)
     tree::insert_on(mem, way, depth, key, end, q);
     let kept = get(mem, KEPT);
     put(mem, KEPT, kept + 1);
+}
+
+// One void more.
+pub fn add(mem: &mut [u8], key: u64, end: u64)
+    requires { ⌜ Roomy (now mem) ⌝ }
+    ensures { λ _. ⌜ Adds key end (now (mem .entry)) (now (mem .exit)) ⌝ }
+{
+    let mut way = [0u16; LONGEST_WAY];
+    let depth = tracing::trace(mem, node::ROOT, key, &mut way);
+    add_on(mem, &way, depth, key, end);
 }
 
 // After a removal: its place is spare again, and one void less is kept.
