@@ -1,48 +1,115 @@
 -- The steps of the descent, from a node whose tree stands in memory.
 -- What the code has of the child that it goes to makes what its caller is told.
-use mathlib.Core.Path.{_≡_, refl}
+use mathlib.Core.Path.{_≡_, refl, ap, _∙_}
 use mathlib.Core.Logic.{inl, inr}
-use mathlib.Core.Bool.{true, false, not}
+use mathlib.Core.Bool.{Bool, true, false, not}
 use mathlib.Core.List.{List}
-use Prim.Native.Nat.{ℕ, _+_, _*_, _≤_}
+use Prim.Native.Nat.{ℕ, suc, _+_, _/_, _≤_, _<_}
+use native.Mathlib.Decide.{ℕ-discrete}
 use native.Mathlib.Omega.{arith}
 use lib.Dec.{leb}
+use lib.ListN.{length, getD, set, length-set}
+use lib.Seq.{getD-set-same}
 use Rattle.numbers.specs.Case.{pick, case-le}
 use Rattle.shape.specs.Tree.{Tree, height, top}
+use Rattle.shape.specs.Side.{near}
 use Rattle.shape.specs.FindLaws.{descended-most}
 use Rattle.node.specs.declared.Node.{Node}
-use Rattle.node.specs.Layout.{highest, nodeAt}
+use Rattle.node.specs.Layout.{Within, nodeAt}
 use Rattle.node.specs.Rep.{Stands}
-use Rattle.node.proofs.Reps.{within}
+use Rattle.node.specs.Paths.{longestWay, Child}
+use Rattle.node.proofs.Paths.{noted, noted-here}
+use Rattle.node.proofs.Seats.{nearSeat, near-half}
 use Rattle.search.specs.declared.Descent.{Descent}
-use Rattle.search.specs.Search.{Descendable, Descended}
-use Rattle.search.proofs.Look.{childOf, leaf-here, inner-here, top-here}
+use Rattle.search.specs.Search.{Descendable, Descended, Prolonged}
+use Rattle.search.proofs.Look.{leaf-here, inner-here, small-here, high-here, top-here, child-within, child-lower, place-next}
 
-module _ (m : List ℕ) (s f : ℕ) (n : Node) (e : n ≡ nodeAt m s) where
-  pub ends-here : n .height ≡ 0 → (t : Tree) → Stands m s t → Descended m f t (record { seat = s; visits = 0 })
-  ends-here h t g = rw (leaf-here e h t g, e) (record { inside = within g; ends = refl; counts = refl })
+module _ (m : List ℕ) (s q f : ℕ) (ws : List ℕ) (i : ℕ) (D : Descendable m s q ws i) where
+  pub low-place : q < 65536
+  low-place = small-here (D .place) (D .tree) (D .stands)
 
-  -- y is the right child's node, and the descent goes on at x
-  pub goes-on : (n .height ≡ 0 → ⊥) → (u : ℕ) → u ≡ childOf false n → (y : Node) → y ≡ nodeAt m u → (x : ℕ) → x ≡ childOf (not (leb f (y .top))) n
-      → (d : Descent) → ((t : Tree) → Stands m x t → Descended m f t d) → (v : ℕ) → v ≡ pick (not (leb f (y .top))) 2 1
-      → (t : Tree) → Stands m s t → Descended m f t (record { seat = d .seat; visits = d .visits + v })
-  goes-on h u eu y ey x ex d k v ev t g =
-      let i = inner-here e h t g in
-      let right : Stands m u (i .right) = rw eu (i .child false) in
-      let same : y .top ≡ top (i .right) = top-here ey right in
-      elim (case-le f (y .top)) [
-        | inl z ↦ let q : leb f (top (i .right)) ≡ true = rw same at (z .1) in
-            let at : x ≡ childOf false n = rw (z .1) at ex in
-            let D = k (i .right) (rw at (i .child false)) in
-            let w : v ≡ 1 = rw (z .1) at ev in
-            rw (i .is) (record { inside = D .inside; ends = rw q (D .ends); counts = rw q (omega (arith, D .counts, w)) })
-        | inr z ↦ let q : leb f (top (i .right)) ≡ false = rw same at (z .1) in
-            let at : x ≡ childOf true n = rw (z .1) at ex in
-            let D = k (i .left) (rw at (i .child true)) in
-            let w : v ≡ 2 = rw (z .1) at ev in
-            rw (i .is) (record { inside = D .inside; ends = rw q (D .ends); counts = rw q (omega (arith, D .counts, w)) })
-      ]
+  -- its visits are few
+  pub few : (d : Descent) → ((t : Tree) → Stands m s t → Descended m f t d) → d .visits ≤ 64
+  few d k = omega (arith, k (D .tree) (D .stands) .counts, descended-most f (D .tree), D .low)
 
--- its visits are few
-pub few : (m : List ℕ) (s f : ℕ) (d : Descent) → Descendable m s → ((t : Tree) → Stands m s t → Descended m f t d) → d .visits ≤ 2 * highest
-few m s f d g k = omega (arith, k (g .0) (g .1) .counts, descended-most f (g .0))
+  pub ends-here : q ≡ 0 → ((t : Tree) → Stands m s t → Descended m f t (record { seat = s; visits = 0; depth = i }))
+      × Prolonged m i ws ws (record { seat = s; visits = 0; depth = i })
+  ends-here h = (
+    (λ t g. let l = leaf-here (D .place) h t g in rw l (record { stands = rw l at g; ends = refl; counts = refl })),
+    record { deep = omega arith; long = omega (arith, D .low, D .long); stays = λ j l. refl; steps = λ j l u. absurd (omega arith); last = D .here },
+  )
+
+  module _ (h : q ≡ 0 → ⊥) where
+    pub child-in : (b : Bool) (x : ℕ) → x ≡ nearSeat b q → Within m x
+    child-in b x ex = child-within b (D .place) h x ex (D .tree) (D .stands)
+
+    pub room : (i + 1 < length ws) × (i + 1 < longestWay)
+    room = omega (arith, D .low, D .long, inner-here (D .place) h (D .tree) (D .stands) .lower true)
+
+    -- the child gone to, at the seat `at`
+    module _ (b : Bool) (at : ℕ) (ea : at ≡ nearSeat (not b) q) where
+      pub at-lower : nodeAt m at .height < nodeAt m s .height
+      at-lower = child-lower (not b) (D .place) h at ea (D .tree) (D .stands)
+
+      -- y and x are the nodes on the right and on the left
+      pub at-descendable : (p : ℕ) → p ≡ nearSeat false q → (y : Node) → y ≡ nodeAt m p → (l : ℕ) → l ≡ nearSeat true q → (x : Node) → x ≡ nodeAt m l
+          → (z : ℕ) → z ≡ pick b (y .place) (x .place) → Descendable m at z (set ws (i + 1) at) (i + 1)
+      at-descendable p ep y ey l el x ex z ez =
+          let c = inner-here (D .place) h (D .tree) (D .stands) in
+          record {
+            tree = near (not b) (c .left) (c .right);
+            stands = rw ea (c .child (not b));
+            place = place-next m q b p ep y ey l el x ex at ea z ez;
+            low = omega (arith, c .lower (not b), D .low);
+            long = omega (arith, D .long, length-set ws (i + 1) at);
+            here = getD-set-same ws (i + 1) at 0 (room .0);
+          }
+
+    -- y is the node on the right, and the descent goes on at the seat `at`
+    module _ (p : ℕ) (ep : p ≡ nearSeat false q) (y : Node) (ey : y ≡ nodeAt m p) (at : ℕ) (ea : at ≡ nearSeat (not (leb f (y .top))) q) where
+      -- what is found below is what is found here
+      module _ (ws′ : List ℕ) (d : Descent) (k : (t : Tree) → Stands m at t → Descended m f t d) (v : ℕ) (ev : v ≡ pick (not (leb f (y .top))) 2 1) where
+        descended-on : (t : Tree) → Stands m s t → Descended m f t (record { seat = d .seat; visits = d .visits + v; depth = d .depth })
+        descended-on t g =
+            let c = inner-here (D .place) h t g in
+            let right : Stands m p (c .right) = rw ep (c .child false) in
+            let same : y .top ≡ top (c .right) = top-here ey right in
+            elim (case-le f (y .top)) [
+              | inl z ↦ let b : leb f (top (c .right)) ≡ true = rw same at (z .1) in
+                  let e : at ≡ nearSeat false q = rw (z .1) at ea in
+                  let K = k (c .right) (rw e (c .child false)) in
+                  let w : v ≡ 1 = rw (z .1) at ev in
+                  rw (c .is) (record { stands = K .stands; ends = rw b (K .ends); counts = rw b (omega (arith, K .counts, w)) })
+              | inr z ↦ let b : leb f (top (c .right)) ≡ false = rw same at (z .1) in
+                  let e : at ≡ nearSeat true q = rw (z .1) at ea in
+                  let K = k (c .left) (rw e (c .child true)) in
+                  let w : v ≡ 2 = rw (z .1) at ev in
+                  rw (c .is) (record { stands = K .stands; ends = rw b (K .ends); counts = rw b (omega (arith, K .counts, w)) })
+            ]
+
+        prolonged-on : Prolonged m (i + 1) (set ws (i + 1) at) ws′ d → Prolonged m i ws ws′ (record { seat = d .seat; visits = d .visits + v; depth = d .depth })
+        prolonged-on P =
+            record {
+              deep = omega (arith, P .deep);
+              long = P .long;
+              stays = λ j l. P .stays j (omega arith) ∙ noted ws i at j l;
+              steps = λ j l u. go j l u;
+              last = P .last;
+            }
+          where
+            here : getD ws′ i 0 ≡ s
+            here = P .stays i (omega arith) ∙ noted ws i at i (omega arith) ∙ D .here
+
+            there : getD ws′ (suc i) 0 ≡ at
+            there = P .stays (suc i) (omega arith) ∙ noted-here ws i at (room .0)
+
+            child : Child m s at
+            child = record { inner = high-here (D .place) h (D .tree) (D .stands); is = ap (λ (a : ℕ). a / 2) ea ∙ near-half (not (leb f (y .top))) q ∙ D .place }
+
+            go : (j : ℕ) → i ≤ j → j < d .depth → Child m (getD ws′ j 0) (getD ws′ (suc j) 0)
+            go j l u = elim (ℕ-discrete j i) [ yes e ↦ rw (e, here, there) child | no n ↦ P .steps j (omega arith) u ]
+
+        pub goes-on : Prolonged m (i + 1) (set ws (i + 1) at) ws′ d
+            → ((t : Tree) → Stands m s t → Descended m f t (record { seat = d .seat; visits = d .visits + v; depth = d .depth }))
+            × Prolonged m i ws ws′ (record { seat = d .seat; visits = d .visits + v; depth = d .depth })
+        goes-on P = ((λ t g. descended-on t g), prolonged-on P)

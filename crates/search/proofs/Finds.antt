@@ -2,23 +2,23 @@
 use mathlib.Core.Path.{_≡_, refl, ap, _∙_}
 use mathlib.Core.Bool.{Bool, true, false}
 use mathlib.Core.List.{List}
-use Prim.Native.Nat.{ℕ, _+_, _*_, _-_, _≤_}
+use Prim.Native.Nat.{ℕ, _+_, _-_, _≤_, _<_}
 use native.Mathlib.Omega.{arith}
 use lib.ListN.{length, getD}
 use Rattle.numbers.specs.Case.{pick}
 use Rattle.rule.specs.Fit.{fits}
 use Rattle.rule.specs.Key.{startOf}
-use Rattle.shape.specs.Tree.{Tree}
+use Rattle.shape.specs.Tree.{Tree, height}
 use Rattle.shape.specs.Visits.{none, some, path, passed, reached, fitting, Deepest, unmarked, marked, deepest, descended, bottom, published}
-use Rattle.shape.specs.Walk.{mark-lower}
 use Rattle.shape.specs.SearchLaws.{search-visits}
 use Rattle.node.specs.declared.Node.{Node}
-use Rattle.node.specs.Layout.{highest, nodeAt}
+use Rattle.node.specs.Layout.{nodeAt}
 use Rattle.node.specs.Rep.{Stands}
+use Rattle.node.specs.Paths.{longestWay}
 use Rattle.search.specs.declared.Descent.{Descent}
 use Rattle.search.specs.declared.Way.{Way}
 use Rattle.search.specs.declared.Found.{Found}
-use Rattle.search.specs.Search.{Descendable, Descended, Beside, Marks, Walked, foundOf}
+use Rattle.search.specs.Search.{Descended, Beside, Marks, Walked, foundOf}
 
 -- ---- the mark
 pub record Marked (m ws : List ℕ) (j : ℕ) (d : Deepest) : Type 0 where
@@ -35,13 +35,8 @@ mark-none m ws j unmarked h g = refl
 mark-none m ws j (marked x) h g = absurd (omega (arith, g .deep))
 
 module _ (m : List ℕ) (root r f : ℕ) (ws : List ℕ) (w : Way) (k : (t : Tree) → Stands m root t → Walked m r f t ws w) where
-  pub mark-searchable : (w .mark ≡ 0 → ⊥) → Descendable m root → Descendable m (getD ws (w .mark) 0 - 1)
-  mark-searchable h s =
-      let M = mark-of m ws (w .mark) (deepest f (passed r (s .0))) h (k (s .0) (s .1) .marks) in
-      (M .tree, M .beside .stands, omega (arith, mark-lower r f (s .0) (M .tree) (M .is)))
-
-  pub walk-few : Descendable m root → w .visits ≤ 4 * highest + 1
-  walk-few s = omega (arith, k (s .0) (s .1) .counts, search-visits r f (s .0))
+  pub walk-few : (t : Tree) → Stands m root t → height t < longestWay → w .visits ≤ 129
+  walk-few t s h = omega (arith, k t s .counts, search-visits r f t)
 
   -- ---- what the search answers: n is the node of the leaf reached, o its start, b whether it fits
   module _ (n : Node) (e : n ≡ nodeAt m (getD ws (w .depth) 0)) (o : ℕ) (z : o ≡ startOf (n .lo)) (b : Bool) (a : b ≡ fits o (n .top) r f) (t : Tree) (s : Stands m root t) where

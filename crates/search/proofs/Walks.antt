@@ -16,11 +16,13 @@ use Rattle.shape.specs.Visits.{path, reached, Deepest, unmarked, marked}
 use Rattle.shape.specs.Walk.{OnWay, way-root, way-right, way-left}
 use Rattle.shape.specs.SearchLaws.{search-visits}
 use Rattle.node.specs.declared.Node.{Node}
-use Rattle.node.specs.Layout.{highest, nodeAt}
+use Rattle.node.specs.Layout.{nodeAt}
 use Rattle.node.specs.Rep.{Stands}
+use Rattle.node.specs.Paths.{longestWay}
 use Rattle.node.proofs.Paths.{noted}
+use Rattle.node.proofs.Seats.{nearSeat}
 use Rattle.search.specs.Search.{Marks, Walked}
-use Rattle.search.proofs.Look.{childOf, Inner, leaf-here, inner-here, top-here, lo-here}
+use Rattle.search.proofs.Look.{Inner, leaf-here, inner-here, top-here, lo-here}
 
 -- on the way down t, noted in ws, d steps below its root, with the mark j and after v visits
 pub record On (m : List ℕ) (r f : ℕ) (t : Tree) (ws : List ℕ) (d j v : ℕ) : Type 0 where
@@ -56,14 +58,14 @@ marks-passed m ws f d q x j i k l h u ex s g ei = elim (case-le f (top l)) [
 ]
 
 module _ (m : List ℕ) (r f : ℕ) (t : Tree) (ws : List ℕ) (d j v : ℕ) (o : On m r f t ws d j v) where
-  pub on-few : height t ≤ highest → v ≤ 4 * highest
+  pub on-few : height t < longestWay → v ≤ 128
   on-few h = omega (arith, o .way .counts, path-some r (o .here), search-visits r f t)
 
-  module _ (n : Node) (e : n ≡ nodeAt m (getD ws d 0)) where
+  module _ (u : ℕ) (e : u ≡ nodeAt m (getD ws d 0) .place) where
     -- a step: y and z are the nodes on the right and on the left
-    module _ (h : n .height ≡ 0 → ⊥) (deep : d + 1 < length ws) (turn : j ≤ d)
-        (p : ℕ) (ep : p ≡ childOf false n) (y : Node) (ey : y ≡ nodeAt m p) (q : ℕ) (eq : q ≡ childOf true n) (z : Node) (ez : z ≡ nodeAt m q) where
-      inner : Inner m n (o .here)
+    module _ (h : u ≡ 0 → ⊥) (deep : d + 1 < length ws) (turn : j ≤ d)
+        (p : ℕ) (ep : p ≡ nearSeat false u) (y : Node) (ey : y ≡ nodeAt m p) (q : ℕ) (eq : q ≡ nearSeat true u) (z : Node) (ez : z ≡ nodeAt m q) where
+      inner : Inner m u (o .here)
       inner = inner-here e h (o .here) (o .reached)
 
       split : y .lo ≡ lo (inner .right)
@@ -72,31 +74,31 @@ module _ (m : List ℕ) (r f : ℕ) (t : Tree) (ws : List ℕ) (d j v : ℕ) (o 
       passed-top : z .top ≡ top (inner .left)
       passed-top = top-here (ez ∙ ap (nodeAt m) eq) (inner .child true)
 
-      before : OnWay r f t (node (n .place) (inner .left) (inner .right)) (o .mark) v
+      before : OnWay r f t (node u (inner .left) (inner .right)) (o .mark) v
       before = rw (inner .is) at (o .way)
 
-      on-left : (x i a : ℕ) → (r + 1) * perTick ≤ y .lo → x ≡ childOf true n → i ≡ j → a ≡ 1 → On m r f t (set ws (d + 1) x) (d + 1) i (v + a)
+      on-left : (x i a : ℕ) → (r + 1) * perTick ≤ y .lo → x ≡ nearSeat true u → i ≡ j → a ≡ 1 → On m r f t (set ws (d + 1) x) (d + 1) i (v + a)
       on-left x i a g ex ei ea =
           record {
             here = inner .left;
             mark = o .mark;
             reached = rw (getD-set-same ws (d + 1) x 0 deep, ex) (inner .child true);
             marks = rw ei (marks-noted m ws d x j (o .mark) turn (o .marks));
-            way = rw ea (way-left r f t (n .place) (inner .left) (inner .right) (o .mark) v before (key-after _ r (omega (arith, split))));
+            way = rw ea (way-left r f t u (inner .left) (inner .right) (o .mark) v before (key-after _ r (omega (arith, split))));
           }
 
-      on-right : (x i a : ℕ) → y .lo < (r + 1) * perTick → x ≡ childOf false n → i ≡ pick (leb f (z .top)) (d + 1) j → a ≡ 2 → On m r f t (set ws (d + 1) x) (d + 1) i (v + a)
+      on-right : (x i a : ℕ) → y .lo < (r + 1) * perTick → x ≡ nearSeat false u → i ≡ pick (leb f (z .top)) (d + 1) j → a ≡ 2 → On m r f t (set ws (d + 1) x) (d + 1) i (v + a)
       on-right x i a g ex ei ea =
           record {
             here = inner .right;
             mark = pick (leb f (top (inner .left))) (marked (inner .left)) (o .mark);
             reached = rw (getD-set-same ws (d + 1) x 0 deep, ex) (inner .child false);
-            marks = marks-passed m ws f d (n .place) x j i (o .mark) (inner .left) deep turn ex (inner .child true) (o .marks) (rw passed-top at ei);
-            way = rw ea (way-right r f t (n .place) (inner .left) (inner .right) (o .mark) v before (key-before _ r (omega (arith, split))));
+            marks = marks-passed m ws f d u x j i (o .mark) (inner .left) deep turn ex (inner .child true) (o .marks) (rw passed-top at ei);
+            way = rw ea (way-right r f t u (inner .left) (inner .right) (o .mark) v before (key-before _ r (omega (arith, split))));
           }
 
       -- to the seat x, with the mark i and a visits more: right exactly if the earliest start there is at or before r
-      pub on-next : (x : ℕ) → x ≡ childOf (not (ltb (y .lo) ((r + 1) * perTick))) n
+      pub on-next : (x : ℕ) → x ≡ nearSeat (not (ltb (y .lo) ((r + 1) * perTick))) u
           → (i : ℕ) → i ≡ pick (ltb (y .lo) ((r + 1) * perTick)) (pick (leb f (z .top)) (d + 1) j) j
           → (a : ℕ) → a ≡ pick (ltb (y .lo) ((r + 1) * perTick)) 2 1
           → On m r f t (set ws (d + 1) x) (d + 1) i (v + a)
@@ -106,13 +108,13 @@ module _ (m : List ℕ) (r f : ℕ) (t : Tree) (ws : List ℕ) (d j v : ℕ) (o 
       ]
 
     -- at the leaf
-    pub on-leaf : n .height ≡ 0 → Walked m r f t ws (record { depth = d; mark = j; visits = v + 1 })
-    on-leaf h =
+    pub on-leaf : u ≡ 0 → (b : ℕ) → Walked m r f t ws (record { depth = d; mark = j; below = b; visits = v + 1 })
+    on-leaf h b =
         let l = leaf-here e h (o .here) (o .reached) in
-        let w : OnWay r f t (leaf (n .lo) (n .top)) (o .mark) v = rw l at (o .way) in
+        let w : OnWay r f t (leaf (nodeAt m (getD ws d 0) .lo) (nodeAt m (getD ws d 0) .top)) (o .mark) v = rw l at (o .way) in
         record {
           stands = rw (← w .leads) (rw l at (o .reached));
-          ends = rw (← e) (sym (w .leads));
+          ends = sym (w .leads);
           marks = rw (← w .marks) (o .marks);
           counts = omega (arith, w .counts);
         }

@@ -3,31 +3,44 @@
 use mathlib.Core.Path.{_≡_, refl, sym, ap}
 use mathlib.Core.Bool.{true, false}
 use mathlib.Core.List.{List}
-use Prim.Native.Nat.{ℕ, _+_, _-_, _%_, _≤_, _<_}
+use Prim.Native.Nat.{ℕ, suc, _+_, _-_, _%_, _≤_, _<_}
 use lib.ListN.{length, getD}
 use Rattle.numbers.specs.Case.{pick}
 use Rattle.shape.specs.Tree.{Tree, leaf, height}
 use Rattle.shape.specs.Visits.{Out, none, some, Result, path, passed, reached, Deepest, unmarked, marked, deepest, descended, bottom}
-use Rattle.node.specs.Layout.{highest, Within, nodeAt}
+use Rattle.node.specs.Layout.{nodeAt}
 use Rattle.node.specs.Rep.{Stands}
-use Rattle.node.specs.Paths.{longestWay, Down, Reaches}
+use Rattle.node.specs.Paths.{longestWay, Child, Down, Reaches}
 use Rattle.search.specs.declared.Descent.{Descent}
 use Rattle.search.specs.declared.Way.{Way}
 use Rattle.search.specs.declared.Found.{Found}
 
--- some tree stands at s, and is not higher
-abbrev pub Descendable : List ℕ → ℕ → Type 0
-Descendable m s = (t : Tree) × Stands m s t × (height t ≤ highest)
-
--- and its ways down fit the list
+-- some tree stands at s, and its ways down fit the list
 abbrev pub Searchable : List ℕ → ℕ → (way : List ℕ) → Type 0
 Searchable m s ws = (t : Tree) × Stands m s t × (height t < longestWay) × (longestWay ≤ length ws)
 
--- d is where C's way down from t ends, with its visits
+-- some tree stands at s, which is noted d steps down, and has the place q; and its ways down fit the rest of the list
+pub record Descendable (m : List ℕ) (s q : ℕ) (ws : List ℕ) (d : ℕ) : Type 0 where
+  pub tree : Tree
+  pub stands : Stands m s tree
+  pub place : q ≡ nodeAt m s .place
+  pub low : height tree + d < longestWay
+  pub long : longestWay ≤ length ws
+  pub here : getD ws d 0 ≡ s
+
+-- d is where C's way down from t ends, at a leaf, with its visits
 pub record Descended (m : List ℕ) (f : ℕ) (t : Tree) (d : Descent) : Type 0 where
-  pub inside : Within m (d .seat)
+  pub stands : Stands m (d .seat) (leaf (nodeAt m (d .seat) .lo) (nodeAt m (d .seat) .top))
   pub ends : bottom f t ≡ some (nodeAt m (d .seat) .lo) (nodeAt m (d .seat) .top)
   pub counts : d .visits ≡ length (descended f t)
+
+-- ws′ is the way ws up to the seat i steps down, and goes down from there to the seat where d ends
+pub record Prolonged (m : List ℕ) (i : ℕ) (ws ws′ : List ℕ) (d : Descent) : Type 0 where
+  pub deep : i ≤ d .depth
+  pub long : d .depth < length ws′
+  pub stays : (j : ℕ) → j ≤ i → getD ws′ j 0 ≡ getD ws j 0
+  pub steps : (j : ℕ) → i ≤ j → j < d .depth → Child m (getD ws′ j 0) (getD ws′ (suc j) 0)
+  pub last : getD ws′ (d .depth) 0 ≡ d .seat
 
 -- x stands on the left of the node noted j steps down
 pub record Beside (m ws : List ℕ) (j : ℕ) (x : Tree) : Type 0 where
@@ -47,12 +60,18 @@ pub record Walked (m : List ℕ) (r f : ℕ) (t : Tree) (ws : List ℕ) (w : Way
   pub marks : Marks m ws (w .mark) (deepest f (passed r t))
   pub counts : w .visits ≡ length (path r t) + length (passed r t)
 
--- the way walked is noted, and the mark is beside a node of it
+-- the left sibling of the node noted j steps down has the place b, and its ways down fit
+pub record Under (m ws : List ℕ) (j b : ℕ) : Type 0 where
+  pub is : b ≡ nodeAt m (getD ws j 0 - 1) .place
+  pub room : nodeAt m (getD ws j 0 - 1) .height + j < longestWay
+
+-- the way walked is noted, and the mark, whose children's place is noted too, is beside a node of it
 pub record Trodden (m : List ℕ) (root : ℕ) (ws : List ℕ) (w : Way) : Type 0 where
   pub long : longestWay ≤ length ws
   pub short : w .depth < longestWay
   pub down : Down m root (w .depth) ws
   pub turn : w .mark ≤ w .depth
+  pub under : (w .mark ≡ 0 → ⊥) → Under m ws (w .mark) (w .below)
 
 -- the answer of a search as the code gives it, d seats below the root being noted
 abbrev pub foundAt : (d visits : ℕ) → Out → Found
