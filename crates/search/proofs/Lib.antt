@@ -3,3 +3,4 @@ pub mod Descents
 pub mod Walks
 pub mod Finds
 pub mod Treads
+pub mod Trails

@@ -52,7 +52,10 @@ module _ {m : List ℕ} {s q : ℕ} (e : q ≡ nodeAt m s .place) where
   small-here (leaf k g) f = omega (arith, e, ap placeOf (seen f))
   small-here (node p x y) f = let w = within (left-stands f) in omega (arith, e, ap placeOf (seen f), w .2)
 
-  -- by its height, too, it is an inner node
+  -- so it is by its height, too
+  pub flat-here : q ≡ 0 → (t : Tree) → Stands m s t → nodeAt m s .height ≡ 0
+  flat-here h t f = tall f ∙ ap height (leaf-here h t f)
+
   pub high-here : (q ≡ 0 → ⊥) → (t : Tree) → Stands m s t → nodeAt m s .height ≡ 0 → ⊥
   high-here h t f z = omega (arith, z, tall f, inner-here h t f .lower true)
 

@@ -93,8 +93,8 @@ module _ (m : List ℕ) (root : ℕ) (ws0 ws : List ℕ) (d j b : ℕ) (T : Trea
           child : Child m (getD ws d 0) x
           child = record { inner = high-here e h t s; is = ap (λ (y : ℕ). y / 2) ex ∙ near-half (not right) u ∙ e }
 
-  pub trodden : (v : ℕ) → Trodden m root ws (record { depth = d; mark = j; below = b; visits = v })
-  trodden v = record { long = T .long; short = omega (arith, T .short); down = T .down; turn = T .turn; under = T .under }
+  pub trodden : (v g a : ℕ) → Trodden m root ws (record { depth = d; mark = j; below = b; visits = v; deep = g; after = a })
+  trodden v g a = record { long = T .long; short = omega (arith, T .short); down = T .down; turn = T .turn; under = T .under }
 
 -- ---- what is found
 -- a way with the sibling of its node j steps down noted there

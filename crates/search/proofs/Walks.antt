@@ -108,8 +108,8 @@ module _ (m : List ℕ) (r f : ℕ) (t : Tree) (ws : List ℕ) (d j v : ℕ) (o 
       ]
 
     -- at the leaf
-    pub on-leaf : u ≡ 0 → (b : ℕ) → Walked m r f t ws (record { depth = d; mark = j; below = b; visits = v + 1 })
-    on-leaf h b =
+    pub on-leaf : u ≡ 0 → (b g a : ℕ) → Walked m r f t ws (record { depth = d; mark = j; below = b; visits = v + 1; deep = g; after = a })
+    on-leaf h b g a =
         let l = leaf-here e h (o .here) (o .reached) in
         let w : OnWay r f t (leaf (nodeAt m (getD ws d 0) .lo) (nodeAt m (getD ws d 0) .top)) (o .mark) v = rw l at (o .way) in
         record {

@@ -1,6 +1,6 @@
 -- What the search's contracts say, in the words of the tree's definitions (crates/shape/specs/Visits.antt).
 -- Each speaks of whatever tree stands at the seat; none says how the code goes.
-use mathlib.Core.Path.{_≡_, refl, sym, ap}
+use mathlib.Core.Path.{_≡_, refl, sym, ap, _∙_}
 use mathlib.Core.Bool.{true, false}
 use mathlib.Core.List.{List}
 use Prim.Native.Nat.{ℕ, suc, _+_, _-_, _%_, _≤_, _<_}
@@ -73,13 +73,13 @@ pub record Trodden (m : List ℕ) (root : ℕ) (ws : List ℕ) (w : Way) : Type 
   pub turn : w .mark ≤ w .depth
   pub under : (w .mark ≡ 0 → ⊥) → Under m ws (w .mark) (w .below)
 
--- the answer of a search as the code gives it, d seats below the root being noted
-abbrev pub foundAt : (d visits : ℕ) → Out → Found
-foundAt d n none = record { found = false; key = 0; end = 0; visits = n; noted = d }
-foundAt d n (some k e) = record { found = true; key = k; end = e; visits = n; noted = d }
+-- the answer of a search as the code gives it, with the ways noted as in y
+abbrev pub foundAt : (y : Found) → (visits : ℕ) → Out → Found
+foundAt y n none = record { found = false; key = 0; end = 0; visits = n; noted = y .noted; deep = y .deep; after = y .after }
+foundAt y n (some k e) = record { found = true; key = k; end = e; visits = n; noted = y .noted; deep = y .deep; after = y .after }
 
-abbrev pub foundOf : (d : ℕ) → Result → Found
-foundOf d z = foundAt d (z .visits) (z .out)
+abbrev pub foundOf : (y : Found) → Result → Found
+foundOf y z = foundAt y (z .visits) (z .out)
 
 -- what is found is below the seat noted last
 abbrev pub Notes : List ℕ → (root : ℕ) → List ℕ → Found → Type 0
@@ -90,19 +90,19 @@ abbrev pub resultOf : Found → Result
 resultOf x = record { out = pick (x .found) (some (x .key) (x .end)) none; visits = x .visits }
 
 -- ---- what an answer tells of the search
-result-at : (d n : ℕ) (o : Out) → resultOf (foundAt d n o) ≡ record { out = o; visits = n }
-result-at d n none = refl
-result-at d n (some k e) = refl
+result-at : (y : Found) (n : ℕ) (o : Out) → resultOf (foundAt y n o) ≡ record { out = o; visits = n }
+result-at y n none = refl
+result-at y n (some k e) = refl
 
-module _ (x : Found) (d : ℕ) (z : Result) (q : x ≡ foundOf d z) where
+module _ (x y : Found) (z : Result) (q : x ≡ foundOf y z) where
   pub found-result : resultOf x ≡ z
-  found-result = rw q (result-at d (z .visits) (z .out))
+  found-result = ap resultOf q ∙ result-at y (z .visits) (z .out)
 
   pub found-visits : x .visits ≡ z .visits
-  found-visits = ap (λ (y : Result). y .visits) found-result
+  found-visits = ap (λ (a : Result). a .visits) found-result
 
   pub found-some : x .found ≡ true → z .out ≡ some (x .key) (x .end)
-  found-some h = rw h at (sym (ap (λ (y : Result). y .out) found-result))
+  found-some h = rw h at (sym (ap (λ (a : Result). a .out) found-result))
 
   pub found-none : x .found ≡ false → z .out ≡ none
-  found-none h = rw h at (sym (ap (λ (y : Result). y .out) found-result))
+  found-none h = rw h at (sym (ap (λ (a : Result). a .out) found-result))

@@ -15,7 +15,7 @@ use Rattle.search.proofs.+descend.Lts-descend as descend-lts
 use Rattle.node.proofs.far.Reads as far-reads
 use Rattle.node.proofs.load.Reads as load-reads
 use Rattle.node.proofs.near.Reads as near-reads
-use Rattle.search.proofs.next_place.Reads as next-place-reads
+use Rattle.search.proofs.by_turn.Reads as by-turn-reads
 use Rattle.search.proofs.step_visits.Reads as step-visits-reads
 use Rattle.search.proofs.+descend.{statement}
 use Rattle.search.proofs.+descend.Tie.{close}
@@ -31,7 +31,7 @@ abbrev descend-below : ℕ → In 2 descend-kinds.ps
 descend-below t = and 2 descend-kinds.ps (falls 2 descend-kinds.ps _<_ μ-descend t) descend.Pre
 
 abbrev calls : ℕ → descend-lts.Claims
-calls t = (far-reads.Asked, far-reads.Learnt, load-reads.Asked, load-reads.Learnt, near-reads.Asked, near-reads.Learnt, next-place-reads.Asked, next-place-reads.Learnt, descend-below t, descend.Post, step-visits-reads.Asked, step-visits-reads.Learnt)
+calls t = (far-reads.Asked, far-reads.Learnt, load-reads.Asked, load-reads.Learnt, near-reads.Asked, near-reads.Learnt, by-turn-reads.Asked, by-turn-reads.Learnt, descend-below t, descend.Post, step-visits-reads.Asked, step-visits-reads.Learnt)
 
 -- whether the descent goes right, x and y being the nodes on the left and on the right
 abbrev side : ℕ → (x y : Node) → Bool
@@ -67,20 +67,20 @@ descend-mul-way t c = omega (arith, room _ _ _ (c .before .before .before .befor
 descend-slice-write-way : (t : ℕ) → descend-lts.Need-slice-write-way (calls t) (descend-at t) descend.Post
 descend-slice-write-way t c = room _ _ _ (c .before .before .before .before .before .before .before .before .before .args .f) _ _ (c .before .before .before .before .before .before .before .before .before .pre .1) (c .before .before .before .before .before .before .if1 .left) .0
 
-descend-next-place-requires : (t : ℕ) → descend-lts.Need-next-place-requires (calls t) (descend-at t) descend.Post
-descend-next-place-requires t c κs = tt
+descend-by-turn-requires : (t : ℕ) → descend-lts.Need-by-turn-requires (calls t) (descend-at t) descend.Post
+descend-by-turn-requires t c κs = tt
 
 descend-add-descend : (t : ℕ) → descend-lts.Need-add-descend (calls t) (descend-at t) descend.Post
 descend-add-descend t c = omega (arith, room _ _ _ (c .before .before .before .before .before .before .before .before .before .before .before .args .f) _ _ (c .before .before .before .before .before .before .before .before .before .before .before .pre .1) (c .before .before .before .before .before .before .before .before .if1 .left) .1)
 
 descend-descend-requires : (t : ℕ) → descend-lts.Need-descend-requires (calls t) (descend-at t) descend.Post
-descend-descend-requires t c κs = (omega (arith, at-lower _ _ _ (c .before .before .before .before .before .before .before .before .before .before .before .args .f) _ _ (c .before .before .before .before .before .before .before .before .before .before .before .pre .1) (c .before .before .before .before .before .before .before .before .if1 .left) (side (c .before .before .before .before .before .before .before .before .before .before .before .args .f) (c .before .before .before .before .load2 .result) (c .before .before .before .before .before .before .load .result)) _ (c .before .before .near2 .ensures), c .before .before .before .before .before .before .before .before .before .before .before .pre .0), at-descendable _ _ _ (c .before .before .before .before .before .before .before .before .before .before .before .args .f) _ _ (c .before .before .before .before .before .before .before .before .before .before .before .pre .1) (c .before .before .before .before .before .before .before .before .if1 .left) (side (c .before .before .before .before .before .before .before .before .before .before .before .args .f) (c .before .before .before .before .load2 .result) (c .before .before .before .before .before .before .load .result)) _ (c .before .before .near2 .ensures) _ (c .before .before .before .before .before .before .before .far .ensures) _ (c .before .before .before .before .before .before .load .ensures) _ (c .before .before .before .before .before .near .ensures) _ (c .before .before .before .before .load2 .ensures) _ (c .before .next-place .ensures))
+descend-descend-requires t c κs = (omega (arith, at-lower _ _ _ (c .before .before .before .before .before .before .before .before .before .before .before .args .f) _ _ (c .before .before .before .before .before .before .before .before .before .before .before .pre .1) (c .before .before .before .before .before .before .before .before .if1 .left) (side (c .before .before .before .before .before .before .before .before .before .before .before .args .f) (c .before .before .before .before .load2 .result) (c .before .before .before .before .before .before .load .result)) _ (c .before .before .near2 .ensures), c .before .before .before .before .before .before .before .before .before .before .before .pre .0), at-descendable _ _ _ (c .before .before .before .before .before .before .before .before .before .before .before .args .f) _ _ (c .before .before .before .before .before .before .before .before .before .before .before .pre .1) (c .before .before .before .before .before .before .before .before .if1 .left) (side (c .before .before .before .before .before .before .before .before .before .before .before .args .f) (c .before .before .before .before .load2 .result) (c .before .before .before .before .before .before .load .result)) _ (c .before .before .near2 .ensures) _ (c .before .before .before .before .before .before .before .far .ensures) _ (c .before .before .before .before .before .before .load .ensures) _ (c .before .before .before .before .before .near .ensures) _ (c .before .before .before .before .load2 .ensures) _ (c .before .by-turn .ensures))
 
 descend-step-visits-requires : (t : ℕ) → descend-lts.Need-step-visits-requires (calls t) (descend-at t) descend.Post
 descend-step-visits-requires t c κs = tt
 
 descend-add-t20 : (t : ℕ) → descend-lts.Need-add-t20 (calls t) (descend-at t) descend.Post
-descend-add-t20 t c = omega (arith, few _ _ _ (c .before .before .before .before .before .before .before .before .before .before .before .before .before .before .before .before .args .f) _ _ (at-descendable _ _ _ (c .before .before .before .before .before .before .before .before .before .before .before .before .before .before .before .before .args .f) _ _ (c .before .before .before .before .before .before .before .before .before .before .before .before .before .before .before .before .pre .1) (c .before .before .before .before .before .before .before .before .before .before .before .before .before .if1 .left) (side (c .before .before .before .before .before .before .before .before .before .before .before .before .before .before .before .before .args .f) (c .before .before .before .before .before .before .before .before .before .load2 .result) (c .before .before .before .before .before .before .before .before .before .before .before .load .result)) _ (c .before .before .before .before .before .before .before .near2 .ensures) _ (c .before .before .before .before .before .before .before .before .before .before .before .before .far .ensures) _ (c .before .before .before .before .before .before .before .before .before .before .before .load .ensures) _ (c .before .before .before .before .before .before .before .before .before .before .near .ensures) _ (c .before .before .before .before .before .before .before .before .before .load2 .ensures) _ (c .before .before .before .before .before .before .next-place .ensures)) _ (c .before .before .before .before .descend .ensures .0), c .before .step-visits .ensures .1)
+descend-add-t20 t c = omega (arith, few _ _ _ (c .before .before .before .before .before .before .before .before .before .before .before .before .before .before .before .before .args .f) _ _ (at-descendable _ _ _ (c .before .before .before .before .before .before .before .before .before .before .before .before .before .before .before .before .args .f) _ _ (c .before .before .before .before .before .before .before .before .before .before .before .before .before .before .before .before .pre .1) (c .before .before .before .before .before .before .before .before .before .before .before .before .before .if1 .left) (side (c .before .before .before .before .before .before .before .before .before .before .before .before .before .before .before .before .args .f) (c .before .before .before .before .before .before .before .before .before .load2 .result) (c .before .before .before .before .before .before .before .before .before .before .before .load .result)) _ (c .before .before .before .before .before .before .before .near2 .ensures) _ (c .before .before .before .before .before .before .before .before .before .before .before .before .far .ensures) _ (c .before .before .before .before .before .before .before .before .before .before .before .load .ensures) _ (c .before .before .before .before .before .before .before .before .before .before .near .ensures) _ (c .before .before .before .before .before .before .before .before .before .load2 .ensures) _ (c .before .before .before .before .before .before .by-turn .ensures)) _ (c .before .before .before .before .descend .ensures .0), c .before .step-visits .ensures .1)
 
 descend-same-length : (t : ℕ) → descend-lts.Need-same-length (calls t) (descend-at t) descend.Post
 descend-same-length t c = c .before .before .before .before .descend .kept .1 .1 .1 .1 .0 ∙ length-set (c .before .before .before .before .before .before .before .before .before .before .before .before .before .before .before .before .args .way .now) (c .before .before .before .before .before .before .before .before .before .before .before .before .before .before .before .before .args .depth + 1) (c .before .before .before .before .before .before .before .near2 .result)
@@ -101,7 +101,7 @@ pub +descend-spec : {M : Type 1} → statement M
     (descend-add-way t)
     (descend-mul-way t)
     (descend-slice-write-way t)
-    (descend-next-place-requires t)
+    (descend-by-turn-requires t)
     (descend-add-descend t)
     (descend-descend-requires t)
     (descend-step-visits-requires t)
