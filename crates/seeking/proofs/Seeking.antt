@@ -29,15 +29,19 @@ use Rattle.search.specs.declared.Found.{Found}
 use Rattle.search.specs.Search.{Searchable, Notes, foundOf, found-visits, found-some, found-none}
 use Rattle.state.specs.State.{State}
 use Rattle.state.specs.Act.{Seeking, tryNext, seek}
+use Rattle.search.specs.Trails.{Ahead}
+use Rattle.tracing.specs.Ways.{Way}
+use Rattle.rule.specs.Key.{perTick}
+use Rattle.state.specs.Sound.{mostKey}
 use Rattle.memory.specs.Holds.{Holds, Whole}
 use Rattle.memory.specs.Steps.{Pointed}
 use Rattle.memory.proofs.Parts.{padded-at}
 use Rattle.seeking.specs.declared.Taken.{Taken}
-use Rattle.seeking.specs.Seek.{takenOf, Seeks, Points}
+use Rattle.seeking.specs.Seek.{takenOf, Seeks, Points, Foresees}
 
 -- what is said of y, said of what is equal to it
-pub taken-as : (r h p : ℕ) (m ws : List ℕ) (x y : Taken) → x ≡ y → Seeks r h p y m × Points m ws y → Seeks r h p x m × Points m ws x
-taken-as r h p m ws x y e a = subst (λ z. Seeks r h p z m × Points m ws z) (sym e) a
+pub taken-as : (r h p : ℕ) (m ws us : List ℕ) (x y : Taken) → x ≡ y → Seeks r h p y m × Points m ws y × Foresees h m us y → Seeks r h p x m × Points m ws x × Foresees h m us x
+taken-as r h p m ws us x y e a = subst (λ z. Seeks r h p z m × Points m ws z × Foresees h m us z) (sym e) a
 
 -- a search that n visits went before
 abbrev pub after : ℕ → Seeking → Seeking
@@ -56,14 +60,15 @@ tried-low r h p i d = go (bit p i)
     go false q = absurd (false≢true q)
 
 -- ---- one start
-module _ (x : Found) (z : Result) (q : x ≡ foundOf (x .noted) z) (n : ℕ) (a : Start) (y : Seeking) where
-  fit : x .found ≡ true → record { found = true; line = a .line; start = a .moment; key = x .key; end = x .end; count = n + x .visits; noted = x .noted } ≡ takenOf (x .noted) (after n (tryNext a (z .out) (z .visits) y))
-  fit h = rw (found-some x (x .noted) z q h, found-visits x (x .noted) z q)
+module _ (x : Found) (z : Result) (q : x ≡ foundOf x z) (n : ℕ) (a : Start) (y : Seeking) where
+  fit : x .found ≡ true → let t : Taken = record { found = true; line = a .line; start = a .moment; key = x .key; end = x .end; count = n + x .visits; noted = x .noted; deep = x .deep; after = x .after } in
+      t ≡ takenOf t (after n (tryNext a (z .out) (z .visits) y))
+  fit h = rw (found-some x x z q h, found-visits x x z q)
 
   past : x .found ≡ false → after n (tryNext a (z .out) (z .visits) y) ≡ after (n + x .visits) y
   past h =
-      let e : n + (z .visits + y .count) ≡ n + x .visits + y .count = omega (arith, found-visits x (x .noted) z q) in
-      rw (found-none x (x .noted) z q h, e)
+      let e : n + (z .visits + y .count) ≡ n + x .visits + y .count = omega (arith, found-visits x x z q) in
+      rw (found-none x x z q h, e)
 
 -- the most visits of one start
 abbrev pub most : ℕ
@@ -103,17 +108,22 @@ module _ (m : List ℕ) (r h p : ℕ) where
   pub points : (ws : List ℕ) → longestWay ≤ length ws → (x : Found) → Notes m rootSeat ws x → x .found ≡ true → Pointed m ws (x .noted) (x .key) (x .end)
   points ws l x g h = record { long = l; reaches = g h }
 
+  -- the other way, in a link whose keys rise
+  pub foresees : Whole m → (us : List ℕ) (b : ℕ) (x : Found) → Ahead m rootSeat ((b + h) * perTick) (x .deep) (x .after) us
+      → (k : ℕ) → (b + h) * perTick ≤ k → k < x .after → Way m rootSeat k (x .deep) us
+  foresees w us b x A = A (w .0 .tree) 0 mostKey (w .2 .stands) (w .1 .ordered) (omega arith)
+
   -- x is what is found at the start b
   abbrev pub Finds : (b : ℕ) → Found → Type 0
-  Finds b x = (t : Tree) → Stands m rootSeat t → x ≡ foundOf (x .noted) (published b (b + h) t)
+  Finds b x = (t : Tree) → Stands m rootSeat t → x ≡ foundOf x (published b (b + h) t)
 
-  is : (s : State) → Holds m s → (b : ℕ) (x : Found) → Finds b x → x ≡ foundOf (x .noted) (published b (b + h) (s .tree))
+  is : (s : State) → Holds m s → (b : ℕ) (x : Found) → Finds b x → x ≡ foundOf x (published b (b + h) (s .tree))
   is s H b x g = g (s .tree) (H .stands)
 
   pub few-visits : Whole m → (b : ℕ) (x : Found) → Finds b x → x .visits ≤ most
   few-visits w b x g =
       let t = w .0 .tree in
-      omega (arith, found-visits x (x .noted) (published b (b + h) t) (is (w .0) (w .2) b x g), search-visits b (b + h) t, low w)
+      omega (arith, found-visits x x (published b (b + h) t) (is (w .0) (w .2) b x g), search-visits b (b + h) t, low w)
 
   -- the undelayed start is the first, and is tried
   pub first : r + h ≤ lastMoment → At 0 0 r true
@@ -129,7 +139,7 @@ module _ (m : List ℕ) (r h p : ℕ) where
       here s H = rw e at (A .rest s H)
 
       pub taken-here : x .found ≡ true → (s : State) → Holds m s
-          → record { found = true; line = i; start = b; key = x .key; end = x .end; count = count + x .visits; noted = x .noted } ≡ takenOf (x .noted) (whole s)
+          → let t : Taken = record { found = true; line = i; start = b; key = x .key; end = x .end; count = count + x .visits; noted = x .noted; deep = x .deep; after = x .after } in t ≡ takenOf t (whole s)
       taken-here y s H = rw (here s H) (fit x (published b (b + h) (s .tree)) (is s H b x g) count (record { line = i; moment = b }) (left s i) y)
 
       pub missed : Whole m → x .found ≡ false → Past (count + x .visits) i
@@ -149,7 +159,7 @@ module _ (m : List ℕ) (r h p : ℕ) where
 
     module _ (count i : ℕ) (P : Past count i) where
       -- there is none
-      pub nowhere-left : i ≡ lines → (s : State) → Holds m s → record { found = false; line = 0; start = 0; key = 0; end = 0; count = count; noted = 0 } ≡ takenOf 0 (whole s)
+      pub nowhere-left : i ≡ lines → (s : State) → Holds m s → let t : Taken = record { found = false; line = 0; start = 0; key = 0; end = 0; count = count; noted = 0; deep = 0; after = 0 } in t ≡ takenOf t (whole s)
       nowhere-left l s H =
           let e : drop i (s .settings .delays) ≡ [] = drop-of-length-le (s .settings .delays) {i = i} (omega (arith, lines-are s H)) in
           let z : whole s ≡ after count (seek (s .tree) h (delayed r h p i [])) = rw e at (P .rest s H) in
