@@ -30,25 +30,25 @@ use Rattle.seeking.specs.Seek.{takenAt, takenOf, Seeks}
 use Rattle.booking.specs.Book.{Books}
 
 -- ---- what the code's struct tells of the search
-module _ (x : Taken) (y : Seeking) (q : x ≡ takenOf (x .noted) y) where
+module _ (x : Taken) (y : Seeking) (q : x ≡ takenOf x y) where
   taken-count : x .count ≡ y .count
   taken-count = go (y .out) q
     where
-      go : (o : Sought) → x ≡ takenAt (x .noted) (y .count) o → x .count ≡ y .count
+      go : (o : Sought) → x ≡ takenAt x (y .count) o → x .count ≡ y .count
       go nowhere e = ap (λ (t : Taken). t .count) e
       go (found i b k e) u = ap (λ (t : Taken). t .count) u
 
   taken-none : x .found ≡ false → y .out ≡ nowhere
   taken-none h = go (y .out) q
     where
-      go : (o : Sought) → x ≡ takenAt (x .noted) (y .count) o → o ≡ nowhere
+      go : (o : Sought) → x ≡ takenAt x (y .count) o → o ≡ nowhere
       go nowhere e = refl
       go (found i b k e) u = absurd (false≢true (sym h ∙ ap (λ (t : Taken). t .found) u))
 
   taken-some : x .found ≡ true → y .out ≡ found (x .line) (x .start) (x .key) (x .end)
   taken-some h = go (y .out) q
     where
-      go : (o : Sought) → x ≡ takenAt (x .noted) (y .count) o → o ≡ found (x .line) (x .start) (x .key) (x .end)
+      go : (o : Sought) → x ≡ takenAt x (y .count) o → o ≡ found (x .line) (x .start) (x .key) (x .end)
       go nowhere e = absurd (false≢true (sym (ap (λ (t : Taken). t .found) e) ∙ h))
       go (found i b k e) u = rw u
 
@@ -100,7 +100,7 @@ module _ (m : List ℕ) (r l p floor lines code : ℕ) (ef : floor ≡ word m 4)
     seek-pre w b = (omega (arith, booking-goes (w .0 .settings) (w .0 .floor) r l p (goes (w .0) (w .2)), eh (w .0 .settings)), b)
 
     module _ (x : Taken) (g : Seeks r h p x m) where
-      is : (s : State) → Holds m s → x ≡ takenOf (x .noted) (sought r l p s)
+      is : (s : State) → Holds m s → x ≡ takenOf x (sought r l p s)
       unfolding sought
       is s H = rw (eh (s .settings)) at (g s H)
 

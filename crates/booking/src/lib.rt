@@ -41,7 +41,8 @@ pub fn book(mem: &mut [u8], arrival: u64, burst: u64, permitted: u64) -> Answer
     }
     let hold = rule::fit::hold(burst);
     let mut way = [0u16; memory::LONGEST_WAY];
-    let x = seeking::seek(mem, arrival, hold, permitted, &mut way);
+    let mut far = [0u16; memory::LONGEST_WAY];
+    let x = seeking::seek(mem, arrival, hold, permitted, &mut way, &mut far);
     if !x.found {
         return refusal(7, x.count);
     }
@@ -50,7 +51,7 @@ pub fn book(mem: &mut [u8], arrival: u64, burst: u64, permitted: u64) -> Answer
     if taking::too_many(mem, x.key, x.end, start, free) {
         return refusal(8, x.count);
     }
-    taking::split(mem, &mut way, x.noted, x.key, x.end, start, free);
+    taking::split(mem, &mut way, x.noted, x.key, x.end, start, free, &far, x.deep, x.after);
     Answer {
         code: 0,
         channel: ruling::key::channel(x.key),

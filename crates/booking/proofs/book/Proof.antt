@@ -30,9 +30,9 @@ hold-requires c κs = c .before .before .before .before .before .before .before 
 
 seek-requires : tie.Need-seek-requires
 seek-requires c κs =
-    let a = c .before .before .before .before .before .before .before .before .before .before .args in
-    let p = seek-pre _ (a .arrival) (a .burst) (a .permitted) _ _ _ (c .before .before .before .before .before .before .before .get .ensures) (c .before .before .before .before .before .get2 .ensures) (c .before .before .before .before .booking-code .ensures) (c .before .before .before .if1 .left) _ (c .before .before .hold .ensures .0) (c .before .before .before .before .before .before .before .before .before .before .pre .1) (c .before .before .hold .ensures .1) in
-    ((p .0, p .1, omega arith), c .before .before .before .before .before .before .before .before .before .before .pre .1)
+    let a = c .before .before .before .before .before .before .before .before .before .before .before .args in
+    let p = seek-pre _ (a .arrival) (a .burst) (a .permitted) _ _ _ (c .before .before .before .before .before .before .before .before .get .ensures) (c .before .before .before .before .before .before .get2 .ensures) (c .before .before .before .before .before .booking-code .ensures) (c .before .before .before .before .if1 .left) _ (c .before .before .before .hold .ensures .0) (c .before .before .before .before .before .before .before .before .before .before .before .pre .1) (c .before .before .before .hold .ensures .1) in
+    ((p .0, p .1, omega arith, omega arith), c .before .before .before .before .before .before .before .before .before .before .before .pre .1)
 
 refusal-requires-2 : tie.Need-refusal-requires-2
 refusal-requires-2 c κs = search needs
@@ -42,16 +42,16 @@ same-length-2 c = search needs
 
 returns-2 : tie.Need-returns-2
 returns-2 c =
-    let a = c .before .before .before .before .before .before .before .before .before .before .before .before .before .before .before .args in
-    nothing-fits _ (a .arrival) (a .burst) (a .permitted) _ _ _ (c .before .before .before .before .before .before .before .before .before .before .before .before .get .ensures) (c .before .before .before .before .before .before .before .before .before .before .get2 .ensures) (c .before .before .before .before .before .before .before .before .before .booking-code .ensures) (c .before .before .before .before .before .before .before .before .if1 .left) _ (c .before .before .before .before .before .before .before .hold .ensures .0) _ (c .before .before .before .before .seek .ensures .0) (c .before .if2 .taken) _ (c .refusal2 .ensures)
+    let a = c .before .before .before .before .before .before .before .before .before .before .before .before .before .before .before .before .before .args in
+    nothing-fits _ (a .arrival) (a .burst) (a .permitted) _ _ _ (c .before .before .before .before .before .before .before .before .before .before .before .before .before .before .get .ensures) (c .before .before .before .before .before .before .before .before .before .before .before .before .get2 .ensures) (c .before .before .before .before .before .before .before .before .before .before .before .booking-code .ensures) (c .before .before .before .before .before .before .before .before .before .before .if1 .left) _ (c .before .before .before .before .before .before .before .before .before .hold .ensures .0) _ (c .before .before .before .before .before .seek .ensures .0) (c .before .if2 .taken) _ (c .refusal2 .ensures)
 
 add-free : tie.Need-add-free
 add-free c =
-    let a = c .before .before .before .before .before .before .before .before .before .before .before .before .before .before .args in
-    omega (arith, free-low _ (a .arrival) (a .burst) (a .permitted) _ _ _ (c .before .before .before .before .before .before .before .before .before .before .before .get .ensures) (c .before .before .before .before .before .before .before .before .before .get2 .ensures) (c .before .before .before .before .before .before .before .before .booking-code .ensures) (c .before .before .before .before .before .before .before .if1 .left) _ (c .before .before .before .before .before .before .hold .ensures .0) _ (c .before .before .before .seek .ensures .0) (c .if2 .left) (c .before .before .before .before .before .before .before .before .before .before .before .before .before .before .pre .1))
+    let a = c .before .before .before .before .before .before .before .before .before .before .before .before .before .before .before .before .args in
+    omega (arith, free-low _ (a .arrival) (a .burst) (a .permitted) _ _ _ (c .before .before .before .before .before .before .before .before .before .before .before .before .before .get .ensures) (c .before .before .before .before .before .before .before .before .before .before .before .get2 .ensures) (c .before .before .before .before .before .before .before .before .before .before .booking-code .ensures) (c .before .before .before .before .before .before .before .before .before .if1 .left) _ (c .before .before .before .before .before .before .before .before .hold .ensures .0) _ (c .before .before .before .before .seek .ensures .0) (c .if2 .left) (c .before .before .before .before .before .before .before .before .before .before .before .before .before .before .before .before .pre .1))
 
 too-many-requires : tie.Need-too-many-requires
-too-many-requires c κs = c .before .before .before .before .before .before .before .before .before .before .before .before .before .before .before .pre .1
+too-many-requires c κs = c .before .before .before .before .before .before .before .before .before .before .before .before .before .before .before .before .before .pre .1
 
 refusal-requires-3 : tie.Need-refusal-requires-3
 refusal-requires-3 c κs = search needs
@@ -61,34 +61,40 @@ same-length-3 c = search needs
 
 returns-3 : tie.Need-returns-3
 returns-3 c =
-    let a = c .before .before .before .before .before .before .before .before .before .before .before .before .before .before .before .before .before .before .args in
-    no-room _ (a .arrival) (a .burst) (a .permitted) _ _ _ (c .before .before .before .before .before .before .before .before .before .before .before .before .before .before .before .get .ensures) (c .before .before .before .before .before .before .before .before .before .before .before .before .before .get2 .ensures) (c .before .before .before .before .before .before .before .before .before .before .before .before .booking-code .ensures) (c .before .before .before .before .before .before .before .before .before .before .before .if1 .left) _ (c .before .before .before .before .before .before .before .before .before .before .hold .ensures .0) _ (c .before .before .before .before .before .before .before .seek .ensures .0) (c .before .before .before .before .if2 .left) _ (c .before .before .too-many .ensures) (c .before .if3 .taken) _ (c .refusal3 .ensures)
+    let a = c .before .before .before .before .before .before .before .before .before .before .before .before .before .before .before .before .before .before .before .before .args in
+    no-room _ (a .arrival) (a .burst) (a .permitted) _ _ _ (c .before .before .before .before .before .before .before .before .before .before .before .before .before .before .before .before .before .get .ensures) (c .before .before .before .before .before .before .before .before .before .before .before .before .before .before .before .get2 .ensures) (c .before .before .before .before .before .before .before .before .before .before .before .before .before .before .booking-code .ensures) (c .before .before .before .before .before .before .before .before .before .before .before .before .before .if1 .left) _ (c .before .before .before .before .before .before .before .before .before .before .before .before .hold .ensures .0) _ (c .before .before .before .before .before .before .before .before .seek .ensures .0) (c .before .before .before .before .if2 .left) _ (c .before .before .too-many .ensures) (c .before .if3 .taken) _ (c .refusal3 .ensures)
 
 split-requires : tie.Need-split-requires
 split-requires c κs =
-    let a = c .before .before .before .before .before .before .before .before .before .before .before .before .before .before .before .before .before .before .before .args in (
-      split-pre _ (a .arrival) (a .burst) (a .permitted) _ _ _ (c .before .before .before .before .before .before .before .before .before .before .before .before .before .before .before .before .get .ensures) (c .before .before .before .before .before .before .before .before .before .before .before .before .before .before .get2 .ensures) (c .before .before .before .before .before .before .before .before .before .before .before .before .before .booking-code .ensures) (c .before .before .before .before .before .before .before .before .before .before .before .before .if1 .left) _ (c .before .before .before .before .before .before .before .before .before .before .before .hold .ensures .0) _ (c .before .before .before .before .before .before .before .before .seek .ensures .0) (c .before .before .before .before .before .if2 .left) _ (c .before .before .before .too-many .ensures) (c .before .before .if3 .left) (c .before .before .before .before .before .before .before .before .before .before .before .before .before .before .before .before .before .before .before .pre .1),
-      (free-low _ (a .arrival) (a .burst) (a .permitted) _ _ _ (c .before .before .before .before .before .before .before .before .before .before .before .before .before .before .before .before .get .ensures) (c .before .before .before .before .before .before .before .before .before .before .before .before .before .before .get2 .ensures) (c .before .before .before .before .before .before .before .before .before .before .before .before .before .booking-code .ensures) (c .before .before .before .before .before .before .before .before .before .before .before .before .if1 .left) _ (c .before .before .before .before .before .before .before .before .before .before .before .hold .ensures .0) _ (c .before .before .before .before .before .before .before .before .seek .ensures .0) (c .before .before .before .before .before .if2 .left) (c .before .before .before .before .before .before .before .before .before .before .before .before .before .before .before .before .before .before .before .pre .1), c .before .before .before .before .before .before .before .before .seek .ensures .1 (not-false _ (c .before .before .before .before .before .if2 .left))),
+    let a = c .before .before .before .before .before .before .before .before .before .before .before .before .before .before .before .before .before .before .before .before .before .before .args in (
+      split-pre _ (a .arrival) (a .burst) (a .permitted) _ _ _ (c .before .before .before .before .before .before .before .before .before .before .before .before .before .before .before .before .before .before .before .get .ensures) (c .before .before .before .before .before .before .before .before .before .before .before .before .before .before .before .before .before .get2 .ensures) (c .before .before .before .before .before .before .before .before .before .before .before .before .before .before .before .before .booking-code .ensures) (c .before .before .before .before .before .before .before .before .before .before .before .before .before .before .before .if1 .left) _ (c .before .before .before .before .before .before .before .before .before .before .before .before .before .before .hold .ensures .0) _ (c .before .before .before .before .before .before .before .before .before .before .seek .ensures .0) (c .before .before .before .before .before .before .if2 .left) _ (c .before .before .before .before .too-many .ensures) (c .before .before .before .if3 .left) (c .before .before .before .before .before .before .before .before .before .before .before .before .before .before .before .before .before .before .before .before .before .before .pre .1),
+      ((free-low _ (a .arrival) (a .burst) (a .permitted) _ _ _ (c .before .before .before .before .before .before .before .before .before .before .before .before .before .before .before .before .before .before .before .get .ensures) (c .before .before .before .before .before .before .before .before .before .before .before .before .before .before .before .before .before .get2 .ensures) (c .before .before .before .before .before .before .before .before .before .before .before .before .before .before .before .before .booking-code .ensures) (c .before .before .before .before .before .before .before .before .before .before .before .before .before .before .before .if1 .left) _ (c .before .before .before .before .before .before .before .before .before .before .before .before .before .before .hold .ensures .0) _ (c .before .before .before .before .before .before .before .before .before .before .seek .ensures .0) (c .before .before .before .before .before .before .if2 .left) (c .before .before .before .before .before .before .before .before .before .before .before .before .before .before .before .before .before .before .before .before .before .before .pre .1), c .before .before .before .before .before .before .before .before .before .before .seek .ensures .1 (not-false _ (c .before .before .before .before .before .before .if2 .left))), c .before .before .before .before .before .before .before .before .before .before .seek .ensures .2 (not-false _ (c .before .before .before .before .before .before .if2 .left))),
     )
 
 channel-requires : tie.Need-channel-requires
 channel-requires c κs = search needs
 
-add-t31 : tie.Need-add-t31
-add-t31 c =
-    let a = c .before .before .before .before .before .before .before .before .before .before .before .before .before .before .before .before .before .before .before .before .before .before .before .before .args in
-    omega (arith, finish-low _ (a .arrival) (a .burst) (a .permitted) _ _ _ (c .before .before .before .before .before .before .before .before .before .before .before .before .before .before .before .before .before .before .before .before .before .get .ensures) (c .before .before .before .before .before .before .before .before .before .before .before .before .before .before .before .before .before .before .before .get2 .ensures) (c .before .before .before .before .before .before .before .before .before .before .before .before .before .before .before .before .before .before .booking-code .ensures) (c .before .before .before .before .before .before .before .before .before .before .before .before .before .before .before .before .before .if1 .left) _ (c .before .before .before .before .before .before .before .before .before .before .before .before .before .before .before .before .hold .ensures .0) _ (c .before .before .before .before .before .before .before .before .before .before .before .before .before .seek .ensures .0) (c .before .before .before .before .before .before .before .before .before .before .if2 .left) (c .before .before .before .before .before .before .before .before .before .before .before .before .before .before .before .before .before .before .before .before .before .before .before .before .pre .1))
+add-t36 : tie.Need-add-t36
+add-t36 c =
+    let a = c .before .before .before .before .before .before .before .before .before .before .before .before .before .before .before .before .before .before .before .before .before .before .before .before .before .before .before .args in
+    omega (arith, finish-low _ (a .arrival) (a .burst) (a .permitted) _ _ _ (c .before .before .before .before .before .before .before .before .before .before .before .before .before .before .before .before .before .before .before .before .before .before .before .before .get .ensures) (c .before .before .before .before .before .before .before .before .before .before .before .before .before .before .before .before .before .before .before .before .before .before .get2 .ensures) (c .before .before .before .before .before .before .before .before .before .before .before .before .before .before .before .before .before .before .before .before .before .booking-code .ensures) (c .before .before .before .before .before .before .before .before .before .before .before .before .before .before .before .before .before .before .before .before .if1 .left) _ (c .before .before .before .before .before .before .before .before .before .before .before .before .before .before .before .before .before .before .before .hold .ensures .0) _ (c .before .before .before .before .before .before .before .before .before .before .before .before .before .before .before .seek .ensures .0) (c .before .before .before .before .before .before .before .before .before .before .before .if2 .left) (c .before .before .before .before .before .before .before .before .before .before .before .before .before .before .before .before .before .before .before .before .before .before .before .before .before .before .before .pre .1))
 
 same-length-4 : tie.Need-same-length-4
 same-length-4 c = search needs
 
 returns-4 : tie.Need-returns-4
 returns-4 c =
-    let a = c .before .before .before .before .before .before .before .before .before .before .before .before .before .before .before .before .before .before .before .before .before .before .before .before .args in
-    done _ (a .arrival) (a .burst) (a .permitted) _ _ _ (c .before .before .before .before .before .before .before .before .before .before .before .before .before .before .before .before .before .before .before .before .before .get .ensures) (c .before .before .before .before .before .before .before .before .before .before .before .before .before .before .before .before .before .before .before .get2 .ensures) (c .before .before .before .before .before .before .before .before .before .before .before .before .before .before .before .before .before .before .booking-code .ensures) (c .before .before .before .before .before .before .before .before .before .before .before .before .before .before .before .before .before .if1 .left) _ (c .before .before .before .before .before .before .before .before .before .before .before .before .before .before .before .before .hold .ensures .0) _ (c .before .before .before .before .before .before .before .before .before .before .before .before .before .seek .ensures .0) (c .before .before .before .before .before .before .before .before .before .before .if2 .left) _ (c .before .before .before .before .before .before .before .before .too-many .ensures) (c .before .before .before .before .before .before .before .if3 .left) _ (c .channel .ensures) _ (c .before .before .before .before .split .ensures)
+    let a = c .before .before .before .before .before .before .before .before .before .before .before .before .before .before .before .before .before .before .before .before .before .before .before .before .before .before .before .args in
+    done _ (a .arrival) (a .burst) (a .permitted) _ _ _ (c .before .before .before .before .before .before .before .before .before .before .before .before .before .before .before .before .before .before .before .before .before .before .before .before .get .ensures) (c .before .before .before .before .before .before .before .before .before .before .before .before .before .before .before .before .before .before .before .before .before .before .get2 .ensures) (c .before .before .before .before .before .before .before .before .before .before .before .before .before .before .before .before .before .before .before .before .before .booking-code .ensures) (c .before .before .before .before .before .before .before .before .before .before .before .before .before .before .before .before .before .before .before .before .if1 .left) _ (c .before .before .before .before .before .before .before .before .before .before .before .before .before .before .before .before .before .before .before .hold .ensures .0) _ (c .before .before .before .before .before .before .before .before .before .before .before .before .before .before .before .seek .ensures .0) (c .before .before .before .before .before .before .before .before .before .before .before .if2 .left) _ (c .before .before .before .before .before .before .before .before .before .too-many .ensures) (c .before .before .before .before .before .before .before .before .if3 .left) _ (c .channel .ensures) _ (c .before .before .before .before .split .ensures)
 
 slice-aggregate-seek : tie.Need-slice-aggregate-seek
 slice-aggregate-seek c = search needs
+
+slice-aggregate-seek-2 : tie.Need-slice-aggregate-seek-2
+slice-aggregate-seek-2 c = search needs
+
+slice-aggregate-split-2 : tie.Need-slice-aggregate-split-2
+slice-aggregate-split-2 c = search needs
 
 slice-aggregate-split : tie.Need-slice-aggregate-split
 slice-aggregate-split c = search needs
@@ -105,6 +111,7 @@ book-spec =
     returns
     hold-requires
     slice-aggregate-seek
+    slice-aggregate-seek-2
     seek-requires
     refusal-requires-2
     same-length-2
@@ -115,8 +122,9 @@ book-spec =
     same-length-3
     returns-3
     slice-aggregate-split
+    slice-aggregate-split-2
     split-requires
     channel-requires
-    add-t31
+    add-t36
     same-length-4
     returns-4)
