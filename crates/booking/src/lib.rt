@@ -51,7 +51,18 @@ pub fn book(mem: &mut [u8], arrival: u64, burst: u64, permitted: u64) -> Answer
     if taking::too_many(mem, x.key, x.end, start, free) {
         return refusal(8, x.count);
     }
-    taking::split(mem, &mut way, x.noted, x.key, x.end, start, free, &far, x.deep, x.after);
+    taking::split(
+        mem,
+        &mut way,
+        x.noted,
+        x.key,
+        x.end,
+        start,
+        free,
+        &far,
+        x.deep,
+        x.after,
+    );
     Answer {
         code: 0,
         channel: ruling::key::channel(x.key),

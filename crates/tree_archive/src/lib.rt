@@ -37,9 +37,10 @@ pub extern "C" fn tree_set_end(mem: &mut [u8], root: usize, key: u64, end: u64)
 #[no_mangle]
 pub extern "C" fn tree_search(mem: &[u8], root: usize, r: u64, f: u64) -> u64
     requires { ⌜ Alone (now mem) root ⌝ }
-    requires { ⌜ r ≤ lastMoment ⌝ }
+    requires { ⌜ (r ≤ lastMoment) × (f ≤ lastMoment) ⌝ }
 {
     let mut way = [0u16; tracing::LONGEST_WAY];
-    let x = search::search(mem, root, r, f, &mut way);
+    let mut far = [0u16; tracing::LONGEST_WAY];
+    let x = search::search(mem, root, r, f, &mut way, &mut far);
     x.visits
 }

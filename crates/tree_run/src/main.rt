@@ -62,15 +62,15 @@ fn grow(mem: &mut [u8])
 }
 
 // Searches for ROUNDS bursts. The digest of the answers.
-fn look(mem: &[u8], way: &mut [u16]) -> u64
+fn look(mem: &[u8], way: &mut [u16], far: &mut [u16]) -> u64
     requires { ⌜ Has (now mem) voids ⌝ }
-    requires { ⌜ longestWay ≤ length (now way) ⌝ }
+    requires { ⌜ (longestWay ≤ length (now way)) × (longestWay ≤ length (now far)) ⌝ }
 {
     let mut digest = 0;
     let mut i = 0;
     while i < ROUNDS {
         let r = moment(i * 3 + 1);
-        let x = search::search(mem, ROOT, r, r + i % 900, way);
+        let x = search::search(mem, ROOT, r, r + i % 900, way, far);
         digest = mix(mix(digest, x.visits), x.key);
         i += 1;
     }
@@ -108,9 +108,10 @@ fn say(v: u64) {
 fn main() {
     let mut mem = [0u8; BYTES];
     let mut way = [0u16; tracing::LONGEST_WAY];
+    let mut far = [0u16; tracing::LONGEST_WAY];
     grow(&mut mem);
-    say(look(&mem, &mut way));
+    say(look(&mem, &mut way, &mut far));
     exchange(&mut mem);
-    say(look(&mem, &mut way));
+    say(look(&mem, &mut way, &mut far));
     say(node::load(&mem, ROOT).low);
 }

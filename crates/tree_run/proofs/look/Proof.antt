@@ -9,13 +9,13 @@ use Rattle.tree_run.proofs.look.Statement.{statement}
 use Rattle.tree_run.proofs.look.Tie as tie
 
 abbrev Inv-loop : tie.InvT-loop
-Inv-loop mem way₀ digest₀ i₀ way digest i = (i ≤ 10000) × (length way ≡ length way₀)
+Inv-loop mem way₀ far₀ digest₀ i₀ way far digest i = (i ≤ 10000) × (length way ≡ length way₀) × (length far ≡ length far₀)
 
 abbrev μ-loop : tie.MeasureT-loop
-μ-loop mem way₀ digest₀ i₀ way digest i = 10000 - i
+μ-loop mem way₀ far₀ digest₀ i₀ way far digest i = 10000 - i
 
 loop-holds : tie.Need-loop-holds Inv-loop μ-loop
-loop-holds c = (omega arith, refl)
+loop-holds c = (omega arith, refl, refl)
 
 mul-moment : tie.Need-mul-moment Inv-loop μ-loop
 mul-moment c = omega arith
@@ -30,7 +30,7 @@ add-search : tie.Need-add-search Inv-loop μ-loop
 add-search c = omega (arith, c .moment .ensures)
 
 search-requires : tie.Need-search-requires Inv-loop μ-loop
-search-requires c κs = (searchable _ (c .before .before .before .loop .way) (omega (arith, c .before .before .before .before .before .before .pre .1, c .before .before .before .loop .inv .1)) (c .before .before .before .before .before .before .pre .0), omega (arith, c .before .moment .ensures))
+search-requires c κs = (searchable _ (c .before .before .before .before .loop .way) (omega (arith, c .before .before .before .before .before .before .before .before .pre .1 .0, c .before .before .before .before .loop .inv .1)) (c .before .before .before .before .before .before .before .before .pre .0), (omega (arith, c .before .before .before .before .before .before .before .before .pre .1 .1, c .before .before .before .before .loop .inv .2), omega (arith, c .before .before .moment .ensures), omega (arith, c .before .before .moment .ensures)))
 
 mix-requires : tie.Need-mix-requires Inv-loop μ-loop
 mix-requires c κs = search needs
@@ -45,10 +45,13 @@ loop-less : tie.Need-loop-less Inv-loop μ-loop
 loop-less c = omega arith
 
 loop-again : tie.Need-loop-again Inv-loop μ-loop
-loop-again c = (omega arith, c .before .before .before .before .search .kept .1 .1 .1 .1 .0 ∙ c .before .before .before .before .before .before .before .before .loop .inv .1)
+loop-again c = (omega arith, c .before .before .before .before .before .before .search .kept .1 .1 .1 .1 .0 ∙ c .before .before .before .before .before .before .before .before .before .before .before .loop .inv .1, c .before .before .before .before .before .before .search .kept .1 .1 .1 .1 .1 .0 ∙ c .before .before .before .before .before .before .before .before .before .before .before .loop .inv .2)
 
 same-length : tie.Need-same-length Inv-loop μ-loop
 same-length c = c .before .loop .inv .1
+
+same-length-2 : tie.Need-same-length-2 Inv-loop μ-loop
+same-length-2 c = c .before .loop .inv .2
 
 returns : tie.Need-returns Inv-loop μ-loop
 returns c = search needs
@@ -71,4 +74,5 @@ look-spec =
     loop-less
     loop-again
     same-length
+    same-length-2
     returns)

@@ -18,7 +18,7 @@ slice-aggregate-look-2 : tie.Need-slice-aggregate-look-2
 slice-aggregate-look-2 c = search needs
 
 look-requires : tie.Need-look-requires
-look-requires c κs = (c .before .before .before .grow .ensures, omega arith)
+look-requires c κs = (c .before .before .before .before .grow .ensures, (omega arith, omega arith))
 
 say-requires : tie.Need-say-requires
 say-requires c κs = search needs
@@ -45,13 +45,19 @@ slice-aggregate-load : tie.Need-slice-aggregate-load
 slice-aggregate-load c = search needs
 
 load-requires : tie.Need-load-requires
-load-requires c κs = within (c .before .before .before .before .before .before .before .exchange .ensures .1 .stands)
+load-requires c κs = within (c .before .before .before .before .before .before .before .before .before .exchange .ensures .1 .stands)
 
 say-requires-3 : tie.Need-say-requires-3
 say-requires-3 c κs = search needs
 
 returns : tie.Need-returns
 returns c = search needs
+
+slice-aggregate-look-5 : tie.Need-slice-aggregate-look-5
+slice-aggregate-look-5 c = search needs
+
+slice-aggregate-look-6 : tie.Need-slice-aggregate-look-6
+slice-aggregate-look-6 c = search needs
 
 pub main-spec : {M : Type 1} → statement M
 main-spec =
@@ -61,12 +67,14 @@ main-spec =
     grow-requires
     slice-aggregate-look
     slice-aggregate-look-2
+    slice-aggregate-look-3
     look-requires
     say-requires
     slice-aggregate-exchange
     exchange-requires
-    slice-aggregate-look-3
     slice-aggregate-look-4
+    slice-aggregate-look-5
+    slice-aggregate-look-6
     look-requires-2
     say-requires-2
     slice-aggregate-load
