@@ -4,7 +4,7 @@ use mathlib.Core.Path.{_≡_, refl, ap, _∙_}
 use mathlib.Core.Logic.{inl, inr}
 use mathlib.Core.Bool.{Bool, true, false, not}
 use mathlib.Core.List.{List}
-use Prim.Native.Nat.{ℕ, suc, _+_, _*_, _/_, _≤_, _<_}
+use Prim.Native.Nat.{ℕ, suc, _+_, _/_, _≤_, _<_}
 use native.Mathlib.Decide.{ℕ-discrete}
 use native.Mathlib.Omega.{arith}
 use lib.Dec.{leb}
@@ -113,48 +113,3 @@ module _ (m : List ℕ) (s q f : ℕ) (ws : List ℕ) (i : ℕ) (D : Descendable
             → ((t : Tree) → Stands m s t → Descended m f t (record { seat = d .seat; visits = d .visits + v; depth = d .depth }))
             × Prolonged m i ws ws′ (record { seat = d .seat; visits = d .visits + v; depth = d .depth })
         goes-on P = ((λ t g. descended-on t g), prolonged-on P)
-
--- n visits more
-abbrev pub more : Descent → ℕ → Descent
-more d n = record { seat = d .seat; visits = d .visits + n; depth = d .depth }
-
--- Where the loop stands, after n visits: what is found and noted from here on is what the whole descent, from s₀, finds and notes.
-pub record Descending (m : List ℕ) (f s₀ : ℕ) (ws₀ : List ℕ) (i₀ s q : ℕ) (ws : List ℕ) (i n : ℕ) : Type 0 where
-  pub able : Descendable m s q ws i
-  pub few : n ≤ 2 * i
-  pub len : length ws ≡ length ws₀
-  pub rest : (ws′ : List ℕ) (d : Descent) → ((t : Tree) → Stands m s t → Descended m f t d) → Prolonged m i ws ws′ d
-      → ((t : Tree) → Stands m s₀ t → Descended m f t (more d n)) × Prolonged m i₀ ws₀ ws′ (more d n)
-
-more-none : (d : Descent) → more d 0 ≡ d
-more-none d = ap (λ (v : ℕ). record { seat = d .seat; visits = v; depth = d .depth }) (omega arith)
-
-none-more : (s i n : ℕ) → more (record { seat = s; visits = 0; depth = i }) n ≡ record { seat = s; visits = n; depth = i }
-none-more s i n = ap (λ (v : ℕ). record { seat = s; visits = v; depth = i }) (omega arith)
-
-more-more : (d : Descent) (v n : ℕ) → more (more d v) n ≡ more d (n + v)
-more-more d v n = ap (λ (u : ℕ). record { seat = d .seat; visits = u; depth = d .depth }) (omega arith)
-
-pub descending-start : (m : List ℕ) (f s q : ℕ) (ws : List ℕ) (i : ℕ) → Descendable m s q ws i → Descending m f s ws i s q ws i 0
-descending-start m f s q ws i D =
-    record { able = D; few = omega arith; len = refl; rest = λ ws′ d k P. rw (more-none d) (k, P) }
-
-module _ (m : List ℕ) (f s₀ : ℕ) (ws₀ : List ℕ) (i₀ s q : ℕ) (ws : List ℕ) (i n : ℕ) (I : Descending m f s₀ ws₀ i₀ s q ws i n) where
-  -- at a leaf
-  pub descending-leaf : q ≡ 0 → ((t : Tree) → Stands m s₀ t → Descended m f t (record { seat = s; visits = n; depth = i }))
-      × Prolonged m i₀ ws₀ ws (record { seat = s; visits = n; depth = i })
-  descending-leaf h = let e = ends-here m s q f ws i (I .able) h in
-      rw (none-more s i n) at (I .rest ws (record { seat = s; visits = 0; depth = i }) (e .0) (e .1))
-
-  -- a step down, to the seat `at` with the place z; y and x are the nodes on the right and on the left
-  pub descending-next : (h : q ≡ 0 → ⊥) (p : ℕ) → p ≡ nearSeat false q → (y : Node) → y ≡ nodeAt m p → (l : ℕ) → l ≡ nearSeat true q → (x : Node) → x ≡ nodeAt m l
-      → (at : ℕ) → at ≡ nearSeat (not (leb f (y .top))) q → (v : ℕ) → v ≡ pick (not (leb f (y .top))) 2 1 → v ≤ 2
-      → (z : ℕ) → z ≡ pick (leb f (y .top)) (y .place) (x .place) → Descending m f s₀ ws₀ i₀ at z (set ws (i + 1) at) (i + 1) (n + v)
-  descending-next h p ep y ey l el x ex at ea v ev lv z ez =
-      record {
-        able = at-descendable m s q f ws i (I .able) h (leb f (y .top)) at ea p ep y ey l el x ex z ez;
-        few = omega (arith, I .few, lv);
-        len = length-set ws (i + 1) at ∙ I .len;
-        rest = λ ws′ d k P. let g = goes-on m s q f ws i (I .able) h p ep y ey at ea ws′ d k v ev P in
-            rw (more-more d v n) at (I .rest ws′ (more d v) (g .0) (g .1));
-      }

@@ -94,24 +94,23 @@ pub fn descend(mem: &[u8], s: usize, place: u64, f: u64, way: &mut [u16], depth:
     requires { ⌜ Descendable (now mem) s place (now way) depth ⌝ }
     ensures { λ d. ⌜ ((t : Tree) → Stands (now (mem .entry)) s t → Descended (now (mem .entry)) f t d) × Prolonged (now (mem .entry)) depth (now (way .entry)) (now (way .exit)) d ⌝ }
 {
-    let mut seat = s;
-    let mut visits = 0;
-    let mut deep = depth;
-    let mut below = place;
-    while below != 0 {
-        let y = node::load(mem, node::far(true, below));
-        let x = node::load(mem, node::near(true, below));
-        let late = f <= y.top;
-        seat = node::near(!late, below);
-        visits += step_visits(!late);
-        deep += 1;
-        way[deep] = seat as u16;
-        below = by_turn(late, y.place, x.place);
+    if place == 0 {
+        return Descent {
+            seat: s,
+            visits: 0,
+            depth,
+        };
     }
+    let y = node::load(mem, node::far(true, place));
+    let x = node::load(mem, node::near(true, place));
+    let late = f <= y.top;
+    let at = node::near(!late, place);
+    way[depth + 1] = at as u16;
+    let d = descend(mem, at, by_turn(late, y.place, x.place), f, way, depth + 1);
     Descent {
-        seat,
-        visits,
-        depth: deep,
+        seat: d.seat,
+        visits: d.visits + step_visits(!late),
+        depth: d.depth,
     }
 }
 

@@ -1,0 +1,110 @@
+use Prim.Native.Nat.{ℕ, _+_, _<_}
+use mathlib.Core.Bool.{Bool, true, false, not}
+use mathlib.Core.Path.{_∙_}
+use native.Mathlib.Omega.{arith}
+use lib.Dec.{leb}
+use lib.ListN.{length-set}
+use Rattle.node.specs.declared.Node.{Node}
+use Rattle.node.specs.Layout.{nodeAt}
+use Rattle.search.proofs.Descents.{low-place, few, ends-here, child-in, room, at-lower, at-descendable, goes-on}
+use borrow.Fn.Kinds.{In}
+use borrow.Fn.PlainCycle.{Measures, is, falls, and}
+use Rattle.search.proofs.descend.Reads as descend
+use Rattle.search.proofs.descend.Kinds as descend-kinds
+use Rattle.search.proofs.+descend.Lts-descend as descend-lts
+use Rattle.node.proofs.far.Reads as far-reads
+use Rattle.node.proofs.load.Reads as load-reads
+use Rattle.node.proofs.near.Reads as near-reads
+use Rattle.search.proofs.by_turn.Reads as by-turn-reads
+use Rattle.search.proofs.step_visits.Reads as step-visits-reads
+use Rattle.search.proofs.+descend.{statement}
+use Rattle.search.proofs.+descend.Tie.{close}
+
+-- the height falls at each call
+abbrev μ-descend : Measures 2 descend-kinds.ps ℕ
+μ-descend κs a = nodeAt (a .0 .now) (a .1 .0) .height
+
+abbrev descend-at : ℕ → In 2 descend-kinds.ps
+descend-at t = and 2 descend-kinds.ps (is 2 descend-kinds.ps μ-descend t) descend.Pre
+
+abbrev descend-below : ℕ → In 2 descend-kinds.ps
+descend-below t = and 2 descend-kinds.ps (falls 2 descend-kinds.ps _<_ μ-descend t) descend.Pre
+
+abbrev calls : ℕ → descend-lts.Claims
+calls t = (far-reads.Asked, far-reads.Learnt, load-reads.Asked, load-reads.Learnt, near-reads.Asked, near-reads.Learnt, by-turn-reads.Asked, by-turn-reads.Learnt, descend-below t, descend.Post, step-visits-reads.Asked, step-visits-reads.Learnt)
+
+-- whether the descent goes right, x and y being the nodes on the left and on the right
+abbrev side : ℕ → (x y : Node) → Bool
+side f x y = leb f (y .top)
+
+descend-returns : (t : ℕ) → descend-lts.Need-returns (calls t) (descend-at t) descend.Post
+descend-returns t c = ends-here _ _ _ (c .before .before .before .args .f) _ _ (c .before .before .before .pre .1) (c .if1 .taken)
+
+descend-far-requires : (t : ℕ) → descend-lts.Need-far-requires (calls t) (descend-at t) descend.Post
+descend-far-requires t c κs = omega (arith, low-place _ _ _ (c .before .before .before .args .f) _ _ (c .before .before .before .pre .1))
+
+descend-load-requires : (t : ℕ) → descend-lts.Need-load-requires (calls t) (descend-at t) descend.Post
+descend-load-requires t c κs = child-in _ _ _ (c .before .before .before .before .args .f) _ _ (c .before .before .before .before .pre .1) (c .before .if1 .left) false _ (c .far .ensures)
+
+descend-near-requires : (t : ℕ) → descend-lts.Need-near-requires (calls t) (descend-at t) descend.Post
+descend-near-requires t c κs = omega (arith, low-place _ _ _ (c .before .before .before .before .before .args .f) _ _ (c .before .before .before .before .before .pre .1))
+
+descend-load-requires-2 : (t : ℕ) → descend-lts.Need-load-requires-2 (calls t) (descend-at t) descend.Post
+descend-load-requires-2 t c κs = child-in _ _ _ (c .before .before .before .before .before .before .args .f) _ _ (c .before .before .before .before .before .before .pre .1) (c .before .before .before .if1 .left) true _ (c .near .ensures)
+
+descend-near-requires-2 : (t : ℕ) → descend-lts.Need-near-requires-2 (calls t) (descend-at t) descend.Post
+descend-near-requires-2 t c κs = omega (arith, low-place _ _ _ (c .before .before .before .before .before .before .before .before .args .f) _ _ (c .before .before .before .before .before .before .before .before .pre .1))
+
+descend-cast-way : (t : ℕ) → descend-lts.Need-cast-way (calls t) (descend-at t) descend.Post
+descend-cast-way t c = omega (arith, child-in _ _ _ (c .before .before .before .before .before .before .before .before .before .args .f) _ _ (c .before .before .before .before .before .before .before .before .before .pre .1) (c .before .before .before .before .before .before .if1 .left) (not (side (c .before .before .before .before .before .before .before .before .before .args .f) (c .before .before .load2 .result) (c .before .before .before .before .load .result))) _ (c .near2 .ensures))
+
+descend-add-way : (t : ℕ) → descend-lts.Need-add-way (calls t) (descend-at t) descend.Post
+descend-add-way t c = omega (arith, room _ _ _ (c .before .before .before .before .before .before .before .before .before .args .f) _ _ (c .before .before .before .before .before .before .before .before .before .pre .1) (c .before .before .before .before .before .before .if1 .left) .1)
+
+descend-mul-way : (t : ℕ) → descend-lts.Need-mul-way (calls t) (descend-at t) descend.Post
+descend-mul-way t c = omega (arith, room _ _ _ (c .before .before .before .before .before .before .before .before .before .args .f) _ _ (c .before .before .before .before .before .before .before .before .before .pre .1) (c .before .before .before .before .before .before .if1 .left) .1)
+
+descend-slice-write-way : (t : ℕ) → descend-lts.Need-slice-write-way (calls t) (descend-at t) descend.Post
+descend-slice-write-way t c = room _ _ _ (c .before .before .before .before .before .before .before .before .before .args .f) _ _ (c .before .before .before .before .before .before .before .before .before .pre .1) (c .before .before .before .before .before .before .if1 .left) .0
+
+descend-by-turn-requires : (t : ℕ) → descend-lts.Need-by-turn-requires (calls t) (descend-at t) descend.Post
+descend-by-turn-requires t c κs = tt
+
+descend-add-descend : (t : ℕ) → descend-lts.Need-add-descend (calls t) (descend-at t) descend.Post
+descend-add-descend t c = omega (arith, room _ _ _ (c .before .before .before .before .before .before .before .before .before .before .before .args .f) _ _ (c .before .before .before .before .before .before .before .before .before .before .before .pre .1) (c .before .before .before .before .before .before .before .before .if1 .left) .1)
+
+descend-descend-requires : (t : ℕ) → descend-lts.Need-descend-requires (calls t) (descend-at t) descend.Post
+descend-descend-requires t c κs = (omega (arith, at-lower _ _ _ (c .before .before .before .before .before .before .before .before .before .before .before .args .f) _ _ (c .before .before .before .before .before .before .before .before .before .before .before .pre .1) (c .before .before .before .before .before .before .before .before .if1 .left) (side (c .before .before .before .before .before .before .before .before .before .before .before .args .f) (c .before .before .before .before .load2 .result) (c .before .before .before .before .before .before .load .result)) _ (c .before .before .near2 .ensures), c .before .before .before .before .before .before .before .before .before .before .before .pre .0), at-descendable _ _ _ (c .before .before .before .before .before .before .before .before .before .before .before .args .f) _ _ (c .before .before .before .before .before .before .before .before .before .before .before .pre .1) (c .before .before .before .before .before .before .before .before .if1 .left) (side (c .before .before .before .before .before .before .before .before .before .before .before .args .f) (c .before .before .before .before .load2 .result) (c .before .before .before .before .before .before .load .result)) _ (c .before .before .near2 .ensures) _ (c .before .before .before .before .before .before .before .far .ensures) _ (c .before .before .before .before .before .before .load .ensures) _ (c .before .before .before .before .before .near .ensures) _ (c .before .before .before .before .load2 .ensures) _ (c .before .by-turn .ensures))
+
+descend-step-visits-requires : (t : ℕ) → descend-lts.Need-step-visits-requires (calls t) (descend-at t) descend.Post
+descend-step-visits-requires t c κs = tt
+
+descend-add-t20 : (t : ℕ) → descend-lts.Need-add-t20 (calls t) (descend-at t) descend.Post
+descend-add-t20 t c = omega (arith, few _ _ _ (c .before .before .before .before .before .before .before .before .before .before .before .before .before .before .before .before .args .f) _ _ (at-descendable _ _ _ (c .before .before .before .before .before .before .before .before .before .before .before .before .before .before .before .before .args .f) _ _ (c .before .before .before .before .before .before .before .before .before .before .before .before .before .before .before .before .pre .1) (c .before .before .before .before .before .before .before .before .before .before .before .before .before .if1 .left) (side (c .before .before .before .before .before .before .before .before .before .before .before .before .before .before .before .before .args .f) (c .before .before .before .before .before .before .before .before .before .load2 .result) (c .before .before .before .before .before .before .before .before .before .before .before .load .result)) _ (c .before .before .before .before .before .before .before .near2 .ensures) _ (c .before .before .before .before .before .before .before .before .before .before .before .before .far .ensures) _ (c .before .before .before .before .before .before .before .before .before .before .before .load .ensures) _ (c .before .before .before .before .before .before .before .before .before .before .near .ensures) _ (c .before .before .before .before .before .before .before .before .before .load2 .ensures) _ (c .before .before .before .before .before .before .by-turn .ensures)) _ (c .before .before .before .before .descend .ensures .0), c .before .step-visits .ensures .1)
+
+descend-same-length : (t : ℕ) → descend-lts.Need-same-length (calls t) (descend-at t) descend.Post
+descend-same-length t c = c .before .before .before .before .descend .kept .1 .1 .1 .1 .0 ∙ length-set (c .before .before .before .before .before .before .before .before .before .before .before .before .before .before .before .before .args .way .now) (c .before .before .before .before .before .before .before .before .before .before .before .before .before .before .before .before .args .depth + 1) (c .before .before .before .before .before .before .before .near2 .result)
+
+descend-returns-2 : (t : ℕ) → descend-lts.Need-returns-2 (calls t) (descend-at t) descend.Post
+descend-returns-2 t c = goes-on _ _ _ (c .before .before .before .before .before .before .before .before .before .before .before .before .before .before .before .before .args .f) _ _ (c .before .before .before .before .before .before .before .before .before .before .before .before .before .before .before .before .pre .1) (c .before .before .before .before .before .before .before .before .before .before .before .before .before .if1 .left) _ (c .before .before .before .before .before .before .before .before .before .before .before .before .far .ensures) _ (c .before .before .before .before .before .before .before .before .before .before .before .load .ensures) _ (c .before .before .before .before .before .before .before .near2 .ensures) _ (c .before .before .before .before .descend .result) (c .before .before .before .before .descend .ensures .0) _ (c .before .step-visits .ensures .0) (c .before .before .before .before .descend .ensures .1)
+
+pub +descend-spec : {M : Type 1} → statement M
++descend-spec =
+    close μ-descend λ t. descend-lts.spec (calls t) (descend-at t) descend.Post
+    (descend-returns t)
+    (descend-far-requires t)
+    (descend-load-requires t)
+    (descend-near-requires t)
+    (descend-load-requires-2 t)
+    (descend-near-requires-2 t)
+    (descend-cast-way t)
+    (descend-add-way t)
+    (descend-mul-way t)
+    (descend-slice-write-way t)
+    (descend-by-turn-requires t)
+    (descend-add-descend t)
+    (descend-descend-requires t)
+    (descend-step-visits-requires t)
+    (descend-add-t20 t)
+    (descend-same-length t)
+    (descend-returns-2 t)
