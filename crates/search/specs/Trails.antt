@@ -6,7 +6,7 @@ use lib.ListN.{getD, set}
 use Rattle.shape.specs.Tree.{Tree, Ord}
 use Rattle.node.specs.Layout.{nodeAt}
 use Rattle.node.specs.Rep.{Stands}
-use Rattle.tracing.specs.Ways.{Leads, Way}
+use Rattle.tracing.specs.Ways.{Leads, Serves}
 use Rattle.search.specs.declared.Trail.{Trail}
 use Rattle.search.specs.Search.{Descendable}
 
@@ -48,4 +48,4 @@ pub record FollowsOn (m : List ℕ) (b : ℕ) (t u : Trail) (ws ws′ : List ℕ
 -- if the tree at the root is in order, the first d + 1 seats are the way of every key from b on and below `after`
 abbrev pub Ahead : (m : List ℕ) → (root b d after : ℕ) → (ws : List ℕ) → Type 0
 Ahead m root b d after ws =
-    (t : Tree) (a c : ℕ) → Stands m root t → Ord a c t → c ≤ firstAfter → (k : ℕ) → b ≤ k → k < after → Way m root k d ws
+    (t : Tree) (a c : ℕ) → Stands m root t → Ord a c t → c ≤ firstAfter → Serves m root b after d ws

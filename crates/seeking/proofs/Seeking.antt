@@ -30,7 +30,7 @@ use Rattle.search.specs.Search.{Searchable, Notes, foundOf, found-visits, found
 use Rattle.state.specs.State.{State}
 use Rattle.state.specs.Act.{Seeking, tryNext, seek}
 use Rattle.search.specs.Trails.{Ahead}
-use Rattle.tracing.specs.Ways.{Way}
+use Rattle.tracing.specs.Ways.{Serves}
 use Rattle.rule.specs.Key.{perTick}
 use Rattle.state.specs.Sound.{mostKey}
 use Rattle.memory.specs.Holds.{Holds, Whole}
@@ -110,7 +110,7 @@ module _ (m : List ℕ) (r h p : ℕ) where
 
   -- the other way, in a link whose keys rise
   pub foresees : Whole m → (us : List ℕ) (b : ℕ) (x : Found) → Ahead m rootSeat ((b + h) * perTick) (x .deep) (x .after) us
-      → (k : ℕ) → (b + h) * perTick ≤ k → k < x .after → Way m rootSeat k (x .deep) us
+      → Serves m rootSeat ((b + h) * perTick) (x .after) (x .deep) us
   foresees w us b x A = A (w .0 .tree) 0 mostKey (w .2 .stands) (w .1 .ordered) (omega arith)
 
   -- x is what is found at the start b

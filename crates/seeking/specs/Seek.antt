@@ -2,11 +2,11 @@
 use mathlib.Core.Path.{_≡_}
 use mathlib.Core.List.{List}
 use mathlib.Core.Bool.{true, false}
-use Prim.Native.Nat.{ℕ, _+_, _*_, _≤_, _<_}
+use Prim.Native.Nat.{ℕ, _+_, _*_}
 use Rattle.rule.specs.Key.{perTick}
 use Rattle.rule.specs.Starts.{starts}
 use Rattle.node.specs.Layout.{rootSeat}
-use Rattle.tracing.specs.Ways.{Way}
+use Rattle.tracing.specs.Ways.{Serves}
 use Rattle.state.specs.State.{State}
 use Rattle.state.specs.Act.{Sought, nowhere, found, Seeking, seek}
 use Rattle.memory.specs.Holds.{Holds}
@@ -30,4 +30,4 @@ Points m ws x = x .found ≡ true → Pointed m ws (x .noted) (x .key) (x .end)
 
 -- and the other way is that of every key from the burst's end on and below `after`
 abbrev pub Foresees : (h : ℕ) → (m ws : List ℕ) → Taken → Type 0
-Foresees h m ws x = x .found ≡ true → (k : ℕ) → (x .start + h) * perTick ≤ k → k < x .after → Way m rootSeat k (x .deep) ws
+Foresees h m ws x = x .found ≡ true → Serves m rootSeat ((x .start + h) * perTick) (x .after) (x .deep) ws

@@ -2,12 +2,12 @@
 -- of the room is the rule's.
 use mathlib.Core.List.{List}
 use mathlib.Core.Bool.{Bool}
-use Prim.Native.Nat.{ℕ, _*_, _≤_, _<_}
+use Prim.Native.Nat.{ℕ, _*_}
 use Rattle.rule.specs.Key.{perTick, startOf}
 use Rattle.rule.specs.Codes.{tooMany}
 use Rattle.shape.specs.Tree.{size, In}
 use Rattle.node.specs.Layout.{rootSeat}
-use Rattle.tracing.specs.Ways.{Way}
+use Rattle.tracing.specs.Ways.{Serves}
 use Rattle.state.specs.State.{State}
 use Rattle.state.specs.Act.{split}
 use Rattle.state.specs.Room.{Room}
@@ -25,7 +25,7 @@ Splittable k e r f m = (s : State) × Splitting s k e r f × Holds m s
 
 -- a way is noted that every key from f's first on and below `after` leads
 abbrev pub Ahead : (f d after : ℕ) → List ℕ → List ℕ → Type 0
-Ahead f d after ws m = (k : ℕ) → f * perTick ≤ k → k < after → Way m rootSeat k d ws
+Ahead f d after ws m = Serves m rootSeat (f * perTick) after d ws
 
 abbrev pub Splits : (k e r f : ℕ) → (m m′ : List ℕ) → Type 0
 Splits k e r f m m′ = (s : State) → Splitting s k e r f → Holds m s → After m m′ (split s k e r f)

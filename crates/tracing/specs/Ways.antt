@@ -23,6 +23,10 @@ pub record Way (m : List ℕ) (t k d : ℕ) (ws : List ℕ) : Type 0 where
   pub leads : (i : ℕ) → i < d → Leads m k (getD ws i 0) (getD ws (suc i) 0)
   pub last : nodeAt m (getD ws d 0) .height ≡ 0
 
+-- the first d + 1 seats of the list are the way from t of every key from b on and below c
+abbrev pub Serves : (m : List ℕ) → (t b c d : ℕ) → (ws : List ℕ) → Type 0
+Serves m t b c d ws = (k : ℕ) → b ≤ k → k < c → Way m t k d ws
+
 -- the first d + 1 seats are the beginning of the key's way from t
 pub record Partway (m : List ℕ) (t k d : ℕ) (ws : List ℕ) : Type 0 where
   pub long : longestWay ≤ length ws
