@@ -20,15 +20,10 @@ use Rattle.node.proofs.Frames.{kept-then, kept-less, within-kept}
 use Rattle.node.proofs.Reps.{tall, within, stands-frame}
 use Rattle.node.proofs.Seats.{nearSeat, farSeat, near-half, far-half, near-far, near-stands, far-stands, stands-past, copied-past, reads-height, Parts, parts}
 use Rattle.turning.specs.Turns.{Two, Both, Arranged, Balances}
-use Rattle.turning.proofs.Sides.{uses-over, uses-sides, apart, seat-free, two-over}
+use Rattle.turning.proofs.Sides.{uses-over, uses-sides, apart, seat-free, two-on, two-over}
 use Rattle.joining.specs.Joins.{Hangs}
 
 -- ---- with the tree on the side named first
-two-on : {m : List ℕ} {t w : ℕ} {a b : Tree} (s : Bool) → Stands m (nearSeat s w) a → Stands m (farSeat s w) b → Within m t
-    → ((z : ℕ) → same z (t / 2) + (same z w + uses z a + uses z b) ≤ 1) → max (height a) (height b) + 1 ≤ highest → Two m t w (near s a b) (far s a b)
-two-on true f g r o l = record { first = f; second = g; room = r; once = o; low = l }
-two-on false f g r o l = record { first = g; second = f; room = r; once = λ z. omega (arith, o z); low = omega (arith, l) }
-
 hangs-on : {m m′ : List ℕ} {t w : ℕ} (a b : Tree) (s : Bool) → Hangs s t w m m′ → Two m t w (near s a b) (far s a b) → Arranged t (over s w a b) (hang s w a b) m m′
 hangs-on a b true h f = h a b f
 hangs-on a b false h f = h b a f

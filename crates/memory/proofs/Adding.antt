@@ -1,9 +1,9 @@
 -- One void more, from program point to program point.
 use mathlib.Core.Path.{_≡_, refl, ap, _∙_}
-use mathlib.Core.List.{List, [], _∷_}
-use Prim.Native.Nat.{ℕ, _+_, _*_, _/_, _≤_}
+use mathlib.Core.List.{List, _∷_}
+use Prim.Native.Nat.{ℕ, _+_, _*_, _≤_}
 use native.Mathlib.Omega.{arith}
-use lib.ListN.{length, getD, set}
+use lib.ListN.{getD, set}
 use Rattle.numbers.specs.Words.{word, store}
 use Rattle.shape.specs.Tree.{Tree, same, uses, size}
 use Rattle.shape.specs.HeightLaws.{height-few}
@@ -23,7 +23,7 @@ use Rattle.memory.specs.Header.{header}
 use Rattle.memory.specs.Holds.{Spares, After}
 use Rattle.memory.specs.Steps.{Link, Led}
 use Rattle.memory.specs.Part.{Part}
-use Rattle.memory.proofs.Parts.{below-most, part-seats, part-drop, part-first, part-put, part-tree, opened, closed}
+use Rattle.memory.proofs.Parts.{first-and-rest, below-most, part-seats, part-drop, part-first, part-put, part-tree, opened, closed}
 use Rattle.memory.proofs.Shortening.{few, room-is, kept-is}
 
 -- ---- a place off the list
@@ -42,10 +42,6 @@ module _ (m0 m : List ℕ) (n : ℕ) (h : List ℕ) (t : Tree) (q : ℕ) (ps : L
       let Q = part-drop m0 m n h t q ps P in
       (rq, rw (em, nx) (part-put m0 m n h t ps Q 7 (first ps) (omega arith) (omega (arith, part-first m0 m n h t ps Q))))
 
-one : (ps : List ℕ) → 1 ≤ length ps → ps ≡ first ps ∷ rest ps
-one [] h = absurd (omega arith)
-one (p ∷ ps) h = refl
-
 -- there is room, by the words of the header
 pub roomy-led : (ws : List ℕ) (d k : ℕ) (m : List ℕ) → Led ws d k m → word m 6 ≤ word m 0
 roomy-led ws d k m r = omega (arith, r .2, room-is m (r .0) (r .1), kept-is m (r .0) (r .1))
@@ -62,7 +58,7 @@ module _ (m : List ℕ) (s : State) (L : Link m s) (fit : word m 6 ≤ word m 0)
   Z = rest (s .spares)
 
   split : s .spares ≡ Q ∷ Z
-  split = one (s .spares) (omega (arith, L .placed .many, room-is m s L, kept-is m s L))
+  split = first-and-rest (s .spares) (omega (arith, L .placed .many, room-is m s L, kept-is m s L))
 
   part-0 : Part m m n (header s) (s .tree) (Q ∷ Z)
   part-0 = rw split at (opened m s L)

@@ -11,19 +11,24 @@ use lib.Seq.{getD-set-same, getD-set-other}
 use Rattle.numbers.specs.Case.{case-lt}
 use Rattle.numbers.specs.Words.{word, store}
 use Rattle.numbers.proofs.WordLaws.{word-other, word-same, byte-other, length-store}
-use Rattle.shape.specs.Tree.{Tree, leaf, node, same, uses}
+use Rattle.shape.specs.Tree.{Tree, same, uses}
 use Rattle.shape.specs.PlaceLaws.{same-self, same-other, same-none}
 use Rattle.node.specs.declared.Node.{Node}
 use Rattle.node.specs.Layout.{headerWords, rootSeat, Within, base, nodeAt, seatOf, leafNode, Kept, Saved}
 use Rattle.node.specs.Rep.{Stands}
 use Rattle.node.proofs.Frames.{word-kept, node-kept, kept-then}
 use Rattle.node.proofs.Reps.{within, stands-nodes, stands-frame, stands-apart}
-use Rattle.state.specs.State.{State, first, places}
+use Rattle.state.specs.State.{State, first, rest, places}
 use Rattle.state.specs.Sound.{among, below}
 use Rattle.memory.specs.Header.{padded, header, Heads}
 use Rattle.memory.specs.Holds.{spareNode, Spares, Gives, Past, After}
 use Rattle.memory.specs.Steps.{Link}
 use Rattle.memory.specs.Part.{Part}
+
+-- ---- where a place is spare, there is a first one
+pub first-and-rest : (ps : List ℕ) → 1 ≤ length ps → ps ≡ first ps ∷ rest ps
+first-and-rest [] h = absurd (omega arith)
+first-and-rest (p ∷ ps) h = refl
 
 -- ---- places below n
 pub below-is : (z n : ℕ) → z < n → below z n ≡ 1

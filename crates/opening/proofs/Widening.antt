@@ -2,7 +2,7 @@
 use mathlib.Core.Path.{_≡_, refl, ap, _∙_}
 use mathlib.Core.Logic.{inl, inr}
 use mathlib.Core.Bool.{true}
-use mathlib.Core.List.{List, [], _∷_}
+use mathlib.Core.List.{List, _∷_}
 use Prim.Native.Nat.{ℕ, zero, suc, _+_, _≤_, _<_}
 use native.Mathlib.Numerals.{add-one}
 use native.Mathlib.Omega.{arith}
@@ -24,7 +24,7 @@ use Rattle.state.specs.Open.{upFrom, with-channels, widen, single, widened, few
 use Rattle.memory.specs.Header.{need}
 use Rattle.memory.specs.Holds.{Past, After}
 use Rattle.memory.specs.Steps.{Link, Roomy, Adds}
-use Rattle.memory.proofs.Parts.{below-is, below-out, past-none, past-then, part-put, opened, closed}
+use Rattle.memory.proofs.Parts.{first-and-rest, below-is, below-out, past-none, past-then, part-put, opened, closed}
 use Rattle.shape.specs.SizeLaws.{size-insert}
 use Rattle.opening.specs.Stages.{Begun}
 use Rattle.opening.proofs.Beginning.{length-up}
@@ -74,16 +74,11 @@ wide-single g floor =
 abbrev more : State → State
 more s = record { settings = with-channels (s .settings) (s .settings .channels + 1); floor = s .floor; tree = s .tree; spares = s .spares }
 
--- a place is spare
-one : (ps : List ℕ) → 1 ≤ length ps → ps ≡ first ps ∷ rest ps
-one [] h = absurd (omega arith)
-one (p ∷ ps) h = refl
-
 wide-step : (g : Settings) (floor j : ℕ) (s : State) → j ≤ g .room → Wide g floor j s → Wide g floor (j + 1) (widen s)
 unfolding widen add
 wide-step g floor j s fit w =
     let Q = first (s .spares) in
-    let e : s .spares ≡ Q ∷ rest (s .spares) = one (s .spares) (omega (arith, w .placed .many, w .many, w .room)) in
+    let e : s .spares ≡ Q ∷ rest (s .spares) = first-and-rest (s .spares) (omega (arith, w .placed .many, w .many, w .room)) in
     let k = keyOf (s .floor) (s .settings .channels) in
     record {
       placed = record {

@@ -4,7 +4,7 @@ use mathlib.Core.Path.{_≡_, refl, sym, ap, _∙_}
 use mathlib.Core.Logic.{_≢_}
 use mathlib.Core.Bool.{Bool, true, false}
 use mathlib.Core.List.{List}
-use Prim.Native.Nat.{ℕ, _+_, _*_, _/_, _≤_, _<_, max}
+use Prim.Native.Nat.{ℕ, _+_, _*_, _/_, _≤_, max}
 use native.Mathlib.Omega.{arith}
 use lib.Dec.{ltb}
 use Rattle.shape.specs.Tree.{Tree, leaf, node, height, lo, same, uses}
@@ -13,24 +13,17 @@ use Rattle.shape.specs.SideLaws.{height-sides}
 use Rattle.shape.specs.PlaceLaws.{same-self, same-other, same-none}
 use Rattle.shape.specs.EvenLaws.{kids}
 use Rattle.node.specs.declared.Node.{Node}
-use Rattle.node.specs.Layout.{Within, nodeAt, summedNode, overNode, Kept, Over, Summable, Summed}
-use Rattle.node.specs.Rep.{nodeOf, Stands}
+use Rattle.node.specs.Layout.{nodeAt, summedNode, overNode, Kept, Over, Summed}
+use Rattle.node.specs.Rep.{Stands}
 use Rattle.node.proofs.Frames.{kept-none, kept-then, node-kept, within-kept}
 use Rattle.node.proofs.Reps.{seen, tall, within, stands-frame, left-stands, right-stands}
 use Rattle.node.proofs.Seats.{nearSeat, farSeat, near-half, far-half, near-far, Children, children}
 use Rattle.turning.specs.Turns.{Two, Both, Balances}
-use Rattle.turning.proofs.Sides.{uses-sides, seat-free, two-over}
+use Rattle.turning.proofs.Sides.{uses-sides, seat-free, two-on, two-over}
 use Rattle.tracing.specs.Ways.{Leads}
 use Rattle.rising.specs.Changes.{Change, keyOf, after, fresh, Begun, Ready, Changed, Becomes}
 use Rattle.rising.specs.Rises.{gone, Turned}
 use Rattle.rising.proofs.Afters.{after-uses, after-height, after-side, after-flat}
-
--- two trees at a place, the first on the side named
-two-on : {m : List ℕ} {w v : ℕ} {a b : Tree} (s : Bool) → Stands m (nearSeat s v) a → Stands m (farSeat s v) b → Within m w
-    → ((z : ℕ) → same z (w / 2) + uses z (node v (near s a b) (far s a b)) ≤ 1) → height (node v (near s a b) (far s a b)) ≤ 4294967288
-    → Two m w v (near s a b) (far s a b)
-two-on true f g i o l = record { first = f; second = g; room = i; once = o; low = l }
-two-on false f g i o l = record { first = g; second = f; room = i; once = o; low = l }
 
 module _ (c : Change) (m0 : List ℕ) (w x : ℕ) (L : Leads m0 (keyOf c) w x) where
   abbrev pub n : Node
@@ -107,8 +100,8 @@ module _ (c : Change) (m0 : List ℕ) (w x : ℕ) (L : Leads m0 (keyOf c) w x) w
       pub two : Two m w v (near s A F) (far s A F)
       two =
           two-on s (rw x-is at (G .stands)) (rw y-is at far-at) (within-kept _ m0 m (G .kept) w (within (B .stands)))
-          (λ z. omega (arith, B .once z, uses-sides z s l r, uses-sides z s A F, after-uses c z (near s l r) i))
-          (omega (arith, B .low, after-height c (near s l r), height-sides s A F, height-sides s l r))
+          (λ z. omega (arith, B .once z, uses-sides z s l r, after-uses c z (near s l r) i))
+          (omega (arith, B .low, after-height c (near s l r), height-sides s l r))
 
       pub both-at : Both m w (x / 2)
       both-at = rw x-half (near s A F, far s A F, two)

@@ -9,7 +9,7 @@ use native.Mathlib.Omega.{arith}
 use Rattle.shape.specs.Tree.{Tree, node, height, same, uses}
 use Rattle.shape.specs.Side.{over, near, far}
 use Rattle.node.specs.declared.Node.{Node}
-use Rattle.node.specs.Layout.{Within, Fits, nodeAt, leafNode, Saved, Over, Copied, Mendable}
+use Rattle.node.specs.Layout.{highest, Within, Fits, nodeAt, leafNode, Saved, Over, Copied, Mendable}
 use Rattle.node.specs.Rep.{Stands}
 use Rattle.shape.specs.SideLaws.{weight-over, weight-sides}
 use Rattle.shape.specs.PlaceLaws.{same-self, same-other, same-none}
@@ -38,6 +38,12 @@ leaf-fits h = rw h (omega arith)
 
 pub saved-as : {p : ℕ} {n n′ : Node} {m m′ : List ℕ} → n ≡ n′ → Saved p n m m′ → Saved p n′ m m′
 saved-as h o = rw (← h) o
+
+-- ---- two trees at a place, the first on the side named
+pub two-on : {m : List ℕ} {t w : ℕ} {a b : Tree} (s : Bool) → Stands m (nearSeat s w) a → Stands m (farSeat s w) b → Within m t
+    → ((z : ℕ) → same z (t / 2) + uses z (node w a b) ≤ 1) → height (node w a b) ≤ highest → Two m t w (near s a b) (far s a b)
+two-on true f g r o l = record { first = f; second = g; room = r; once = o; low = l }
+two-on false f g r o l = record { first = g; second = f; room = r; once = λ z. omega (arith, o z); low = omega (arith, l) }
 
 -- ---- a node over two trees
 pub mendable-on : {m : List ℕ} {t q : ℕ} {a b : Tree} (s : Bool) → Within m t → Stands m (nearSeat s q) a → Stands m (farSeat s q) b
