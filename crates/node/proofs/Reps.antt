@@ -113,7 +113,7 @@ node-stands {m} {m′} {s} {q} {a} {b} w o f g d za zb =
 
 pub mendable : {m : List ℕ} {s q : ℕ} {a b : Tree} → Within m s → Stands m (2 * q) a → Stands m (2 * q + 1) b → height a < 4294967295 → height b < 4294967295 → Mendable m s q
 mendable w f g ha hb =
-    record { at = w; left = within f; right = within g; low-left = omega (arith, tall f); low-right = omega (arith, tall g) }
+    record { sums = record { at = w; left = within f; right = within g }; low-left = omega (arith, tall f); low-right = omega (arith, tall g) }
 
 -- ---- a seat has one tree
 decode : (t : Tree) (k : ℕ) (m : List ℕ) (s : ℕ) → Rep m s t → height t ≤ k → treeAt k m s ≡ t

@@ -103,21 +103,19 @@ Over s q m m′ = Saved s (overNode (nodeAt m (2 * q)) (nodeAt m (2 * q + 1)) q)
 abbrev pub Copied : (from to : ℕ) → (m m′ : List ℕ) → Type 0
 Copied s s′ m m′ = Saved s′ (nodeAt m s) m m′
 
--- what writing s over the nodes at place q asks
-pub record Mendable (m : List ℕ) (s q : ℕ) : Type 0 where
-  pub at : Within m s
-  pub left : Within m (2 * q)
-  pub right : Within m (2 * q + 1)
-  pub low-left : nodeAt m (2 * q) .height < 4294967295
-  pub low-right : nodeAt m (2 * q + 1) .height < 4294967295
-
--- ---- a node summed up anew
--- what that asks: s and the nodes at place q are inside
+-- what reading the nodes at place q and writing s asks: they are inside
 pub record Summable (m : List ℕ) (s q : ℕ) : Type 0 where
   pub at : Within m s
   pub left : Within m (2 * q)
   pub right : Within m (2 * q + 1)
 
+-- what writing s over the nodes at place q asks: that, and that the height fits
+pub record Mendable (m : List ℕ) (s q : ℕ) : Type 0 where
+  pub sums : Summable m s q
+  pub low-left : nodeAt m (2 * q) .height < 4294967295
+  pub low-right : nodeAt m (2 * q + 1) .height < 4294967295
+
+-- ---- a node summed up anew
 -- m′ is m with s summed up anew, from the nodes at place q
 abbrev pub Summed : (s q : ℕ) → (m m′ : List ℕ) → Type 0
 Summed s q m m′ = Saved s (summedNode (nodeAt m s) (nodeAt m (2 * q)) (nodeAt m (2 * q + 1))) m m′

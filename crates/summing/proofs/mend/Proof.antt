@@ -24,7 +24,7 @@ save-requires : tie.Need-save-requires
 save-requires c κs =
     let ha = below-by (read-at _ (c .before .before .before .before .before .before .near .ensures) (c .before .before .before .before .before .load .ensures)) (c .before .before .before .before .before .before .before .before .before .pre .low-left) in
     let hb = below-by (read-at _ (c .before .before .before .far .ensures) (c .before .before .load2 .ensures)) (c .before .before .before .before .before .before .before .before .before .pre .low-right) in
-    (c .before .before .before .before .before .before .before .before .before .pre .at, over-fits (c .before .before .before .before .before .load .result) (c .before .before .load2 .result) _ _ (c .before .over .ensures) ha hb (omega (arith, c .before .before .before .before .before .before .before .before .before .pre .left .2)))
+    (c .before .before .before .before .before .before .before .before .before .pre .sums .at, over-fits (c .before .before .before .before .before .load .result) (c .before .before .load2 .result) _ _ (c .before .over .ensures) ha hb (omega (arith, c .before .before .before .before .before .before .before .before .before .pre .sums .left .2)))
 
 same-length : tie.Need-same-length
 same-length c = search needs
