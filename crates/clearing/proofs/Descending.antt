@@ -9,7 +9,7 @@ use Rattle.numbers.specs.Words.{word}
 use Rattle.shape.specs.Tree.{Tree, leaf, node, height, low}
 use Rattle.shape.specs.Clear.{freed}
 use Rattle.node.specs.declared.Node.{Node}
-use Rattle.node.specs.Layout.{Within, nodeAt, Copied}
+use Rattle.node.specs.Layout.{halfWord, Within, nodeAt, Copied}
 use Rattle.node.specs.Rep.{nodeOf}
 use Rattle.node.proofs.Reps.{seen, within, tall}
 use Rattle.node.proofs.Seats.{small-place}
@@ -46,7 +46,7 @@ module _ (b : ℕ) (m : List ℕ) (s k : ℕ) where
     leaf-went l z n h (leaf j e) ps S ek = leaf-gone b n h m s ps j e S (omega (arith, l, low-is S)) k ek
     leaf-went l z n h (node x c d) ps S ek = absurd (omega (arith, z, high-is S))
 
-    pub place-low : Clearable m s k → n0 .place < 4294967296
+    pub place-low : Clearable m s k → n0 .place < halfWord
     place-low c = omega (arith, small-place m s n0 en (c .4 .stands))
 
     -- ---- a node, its children at u and v

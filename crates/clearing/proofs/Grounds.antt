@@ -8,7 +8,7 @@ use Rattle.numbers.specs.Words.{word, store}
 use Rattle.numbers.proofs.WordLaws.{word-other, word-same, length-store}
 use Rattle.shape.specs.Tree.{same}
 use Rattle.shape.specs.PlaceLaws.{same-self, same-other}
-use Rattle.node.specs.Layout.{Within, base, nodeAt, Kept}
+use Rattle.node.specs.Layout.{bytesFor, Within, base, nodeAt, Kept}
 use Rattle.node.proofs.Frames.{word-kept, node-kept}
 use Rattle.state.specs.State.{first}
 use Rattle.state.specs.Sound.{among, below}
@@ -26,7 +26,7 @@ node-put m v z =
 module _ (m0 m : List ℕ) (n : ℕ) (h ps : List ℕ) (G : Ground m0 m n h ps) where
   -- from here on
   pub ground-here : Ground m m n h ps
-  ground-here = record { some = G .some; small = G .small; long = G .long; heads = G .heads; next = G .next; spare = G .spare; past = past-none (192 + 64 * n) m }
+  ground-here = record { some = G .some; small = G .small; long = G .long; heads = G .heads; next = G .next; spare = G .spare; past = past-none (bytesFor n) m }
 
   -- seats that are the link's, and at no spare place, were written
   pub ground-kept : (k : ℕ → ℕ) (m′ : List ℕ) → Kept k m m′ → ((z : ℕ) → 1 ≤ among (z / 2) ps → k z ≡ 0) → ((z : ℕ) → 2 * n ≤ z → k z ≡ 0) → Ground m0 m′ n h ps

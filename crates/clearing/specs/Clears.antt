@@ -4,12 +4,12 @@ use mathlib.Core.Path.{_≡_}
 use mathlib.Core.Logic.{_≢_}
 use mathlib.Core.Bool.{true, false}
 use mathlib.Core.List.{List, _++_}
-use Prim.Native.Nat.{ℕ, _+_, _*_, _/_, _≤_, _<_}
+use Prim.Native.Nat.{ℕ, _+_, _/_, _≤_, _<_}
 use lib.ListN.{length, getD}
 use Rattle.numbers.specs.Words.{word}
 use Rattle.shape.specs.Tree.{Tree, size, height, same, uses, In, Balanced}
 use Rattle.shape.specs.Clear.{Rest, gone, rest, clear, freed}
-use Rattle.node.specs.Layout.{headerWords, highest, nodeAt}
+use Rattle.node.specs.Layout.{headerWords, bytesFor, highest, nodeAt}
 use Rattle.node.specs.Rep.{Stands}
 use Rattle.state.specs.State.{State, first}
 use Rattle.state.specs.Sound.{among, below}
@@ -22,11 +22,11 @@ use Rattle.clearing.specs.declared.Left.{Left}
 pub record Ground (m0 m : List ℕ) (n : ℕ) (h ps : List ℕ) : Type 0 where
   pub some : 1 ≤ n
   pub small : n ≤ 32768
-  pub long : 192 + 64 * n ≤ length m
+  pub long : bytesFor n ≤ length m
   pub heads : (j : ℕ) → j < headerWords → j ≢ 7 → word m j ≡ getD h j 0
   pub next : word m 7 ≡ first ps
   pub spare : Spares m ps
-  pub past : Past (192 + 64 * n) m0 m
+  pub past : Past (bytesFor n) m0 m
 
 -- and the tree t at the seat s; no place is used twice, and s is at none of them
 pub record Site (n : ℕ) (h m : List ℕ) (s : ℕ) (t : Tree) (ps : List ℕ) : Type 0 where

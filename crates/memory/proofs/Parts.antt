@@ -14,7 +14,7 @@ use Rattle.numbers.proofs.WordLaws.{word-other, word-same, byte-other, length-s
 use Rattle.shape.specs.Tree.{Tree, same, uses}
 use Rattle.shape.specs.PlaceLaws.{same-self, same-other, same-none}
 use Rattle.node.specs.declared.Node.{Node}
-use Rattle.node.specs.Layout.{headerWords, rootSeat, Within, base, nodeAt, seatOf, leafNode, Kept, Saved}
+use Rattle.node.specs.Layout.{headerWords, rootSeat, bytesFor, Within, base, nodeAt, seatOf, leafNode, Kept, Saved}
 use Rattle.node.specs.Rep.{Stands}
 use Rattle.node.proofs.Frames.{word-kept, node-kept, kept-then}
 use Rattle.node.proofs.Reps.{within, stands-nodes, stands-frame, stands-apart}
@@ -105,10 +105,10 @@ past-none n m = record { len = refl; byte = λ b h. refl }
 pub past-then : {n : ℕ} {m m′ m″ : List ℕ} → Past n m m′ → Past n m′ m″ → Past n m m″
 past-then f g = record { len = g .len ∙ f .len; byte = λ b h. g .byte b h ∙ f .byte b h }
 
-pub past-store : (m : List ℕ) (i v n : ℕ) → i < 28 → 1 ≤ n → Past (192 + 64 * n) m (store m i v)
+pub past-store : (m : List ℕ) (i v n : ℕ) → i < 28 → 1 ≤ n → Past (bytesFor n) m (store m i v)
 past-store m i v n h o = record { len = length-store m i v; byte = λ b l. byte-other m i v b (inr (omega arith)) }
 
-pub past-kept : (k : ℕ → ℕ) (m m′ : List ℕ) (n : ℕ) → Kept k m m′ → ((z : ℕ) → 2 * n ≤ z → k z ≡ 0) → Past (192 + 64 * n) m m′
+pub past-kept : (k : ℕ → ℕ) (m m′ : List ℕ) (n : ℕ) → Kept k m m′ → ((z : ℕ) → 2 * n ≤ z → k z ≡ 0) → Past (bytesFor n) m m′
 past-kept k m m′ n f h = record { len = f .len; byte = λ b l. f .byte b (inr (h (seatOf b) (omega arith))) }
 
 -- a seat at a place where nothing was written, and not the root's

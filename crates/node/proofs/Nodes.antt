@@ -11,7 +11,7 @@ use Rattle.numbers.specs.Words.{word, store}
 use Rattle.numbers.proofs.WordLaws.{word-other, word-same, byte-other, length-store}
 use Rattle.shape.specs.Tree.{same}
 use Rattle.node.specs.declared.Node.{Node}
-use Rattle.node.specs.Layout.{base, Within, Fits, nodeAt, sumsSaved, saved, linksOf, overNode, withSums, seatOf, Saved, Copied, Over}
+use Rattle.node.specs.Layout.{halfWord, base, Within, Fits, nodeAt, sumsSaved, saved, linksOf, overNode, withSums, seatOf, Saved, Copied, Over}
 use Rattle.shape.specs.PlaceLaws.{same-none}
 
 -- a node's fields are words
@@ -90,8 +90,8 @@ module _ (m : List ℕ) (p : ℕ) (n : Node) (i : Within m p) (f : Fits n) (w : 
   unfolding saved nodeAt
   node-saved =
       let o : (j : ℕ) → j ≢ base p + 3 → word (store M (base p + 3) (linksOf n)) j ≡ word M j = λ j h. word-other M (base p + 3) (linksOf n) j h in
-      let a : linksOf n / 4294967296 ≡ n .height = omega arith in
-      let b : linksOf n % 4294967296 ≡ n .place = omega arith in
+      let a : linksOf n / halfWord ≡ n .height = omega arith in
+      let b : linksOf n % halfWord ≡ n .place = omega arith in
       rw (
         links,
         o (base p) (omega arith),
@@ -135,5 +135,5 @@ mended m m′ p q x y n ex ey en s = rw (← ex, ← ey, ← en) s
 pub below-by : {x y : Node} {h : ℕ} → x ≡ y → y .height < h → x .height < h
 below-by e l = rw e l
 
-pub over-fits : (x y n : Node) (q : ℕ) → n ≡ overNode x y q → x .height < 4294967295 → y .height < 4294967295 → q < 4294967296 → Fits n
+pub over-fits : (x y n : Node) (q : ℕ) → n ≡ overNode x y q → x .height < halfWord - 1 → y .height < halfWord - 1 → q < halfWord → Fits n
 over-fits x y n q e hx hy hq = rw e (omega arith)

@@ -2,13 +2,13 @@
 use mathlib.Core.Path.{_≡_, refl, sym, ap, _∙_}
 use mathlib.Core.Logic.{_≢_}
 use mathlib.Core.List.{List}
-use Prim.Native.Nat.{ℕ, zero, suc, _+_, _*_, _/_, _<_, _≤_, max}
+use Prim.Native.Nat.{ℕ, zero, suc, _+_, _*_, _-_, _/_, _<_, _≤_, max}
 use native.Mathlib.Omega.{arith}
 use borrow.Author.Tests.{ne-eqb}
 use lib.ListN.{length}
 use Rattle.shape.specs.Tree.{Tree, leaf, node, height, same, uses}
 use Rattle.node.specs.declared.Node.{Node}
-use Rattle.node.specs.Layout.{Within, nodeAt, leafNode, Kept, Saved, Over, Copied, Mendable}
+use Rattle.node.specs.Layout.{halfWord, Within, nodeAt, leafNode, Kept, Saved, Over, Copied, Mendable}
 use Rattle.node.specs.Rep.{nodeOf, Rep, Stands, treeAt}
 use Rattle.shape.specs.PlaceLaws.{same-self, same-other}
 use Rattle.node.proofs.Frames.{node-kept, within-kept}
@@ -111,7 +111,7 @@ node-stands {m} {m′} {s} {q} {a} {b} w o f g d za zb =
       );
     }
 
-pub mendable : {m : List ℕ} {s q : ℕ} {a b : Tree} → Within m s → Stands m (2 * q) a → Stands m (2 * q + 1) b → height a < 4294967295 → height b < 4294967295 → Mendable m s q
+pub mendable : {m : List ℕ} {s q : ℕ} {a b : Tree} → Within m s → Stands m (2 * q) a → Stands m (2 * q + 1) b → height a < halfWord - 1 → height b < halfWord - 1 → Mendable m s q
 mendable w f g ha hb =
     record { sums = record { at = w; left = within f; right = within g }; low-left = omega (arith, tall f); low-right = omega (arith, tall g) }
 

@@ -29,27 +29,35 @@ rootSeat = 1
 abbrev pub Within : List ℕ → ℕ → Type 0
 Within m s = (32 * s + 224 ≤ length m) × (1 ≤ s) × (s < 65536)
 
--- heights are written in 32 bits: no tree may be higher than this (a link's trees are lower by far)
+-- the bytes of the header and of so many places, the place 0 among them: that has one seat, the root's, every other one two
+abbrev pub bytesFor : (places : ℕ) → ℕ
+bytesFor n = 192 + 64 * n
+
+-- a node's links are one word: its height in the upper half, the place in the lower
+abbrev pub halfWord : ℕ
+halfWord = 4294967296
+
+-- no tree may be higher than this, so that a height fits (a link's trees are lower by far)
 abbrev pub highest : ℕ
-highest = 4294967288
+highest = halfWord - 8
 
 -- the node at seat s
 unfoldable pub nodeAt : List ℕ → ℕ → Node
 nodeAt m s =
     record {
-      height = word m (base s + 3) / 4294967296;
+      height = word m (base s + 3) / halfWord;
       lo = word m (base s);
       top = word m (base s + 1);
       low = word m (base s + 2);
-      place = word m (base s + 3) % 4294967296;
+      place = word m (base s + 3) % halfWord;
     }
 
 -- height and place in one word
 abbrev pub linksOf : Node → ℕ
-linksOf n = n .height * 4294967296 + n .place
+linksOf n = n .height * halfWord + n .place
 
 abbrev pub Fits : Node → Type 0
-Fits n = (n .height < 4294967296) × (n .place < 4294967296)
+Fits n = (n .height < halfWord) × (n .place < halfWord)
 
 -- the memory with the sums of n at seat s: three words; and with n there, height and place too
 unfoldable pub sumsSaved : List ℕ → ℕ → Node → List ℕ
@@ -112,8 +120,8 @@ pub record Summable (m : List ℕ) (s q : ℕ) : Type 0 where
 -- what writing s over the nodes at place q asks: that, and that the height fits
 pub record Mendable (m : List ℕ) (s q : ℕ) : Type 0 where
   pub sums : Summable m s q
-  pub low-left : nodeAt m (2 * q) .height < 4294967295
-  pub low-right : nodeAt m (2 * q + 1) .height < 4294967295
+  pub low-left : nodeAt m (2 * q) .height < halfWord - 1
+  pub low-right : nodeAt m (2 * q + 1) .height < halfWord - 1
 
 -- ---- a node summed up anew
 -- m′ is m with s summed up anew, from the nodes at place q

@@ -1,9 +1,9 @@
 // A node of the tree in lent memory: its words, after the header (docs/ARCHITECTURE.md).
 // Above this crate nobody speaks of a node's words: only of the node at a seat.
 ghost use mathlib.Core.Path.{_≡_};
-ghost use Prim.Native.Nat.{_+_, _*_, _≤_, _<_};
+ghost use Prim.Native.Nat.{_+_, _*_, _<_};
 ghost use Rattle.shape.specs.Side.{near, far};
-ghost use Rattle.node.specs.Layout.{Within, Fits, nodeAt, leafNode, withSums, sumsSaved, Saved, Copied};
+ghost use Rattle.node.specs.Layout.{halfWord, Within, Fits, nodeAt, leafNode, withSums, sumsSaved, Saved, Copied};
 
 // The layout: the words and bytes of the header, and those of each node after it. The first seat is 1: the header ends there.
 pub const HEADER_WORDS: usize = 28;
@@ -18,6 +18,9 @@ pub const BEFORE_SEATS: usize = HEADER_WORDS - NODE_WORDS;
 
 // The root's seat.
 pub const ROOT: usize = 1;
+
+// A node's links are one word: its height in the upper half, the place in the lower.
+pub const HALF_WORD: u64 = 4294967296;
 
 pub struct Node {
     pub height: u64,
@@ -42,7 +45,7 @@ pub fn leaf(key: u64, end: u64) -> Node
 
 // Of the two seats at place q, the one on the side named, and the other.
 pub fn near(left: bool, q: u64) -> usize
-    requires { ⌜ q < 4294967296 ⌝ }
+    requires { ⌜ q < halfWord ⌝ }
     ensures { λ s. ⌜ s ≡ near left (2 * q) (2 * q + 1) ⌝ }
 {
     let first = 2 * q as usize;
@@ -50,7 +53,7 @@ pub fn near(left: bool, q: u64) -> usize
 }
 
 pub fn far(left: bool, q: u64) -> usize
-    requires { ⌜ q < 4294967296 ⌝ }
+    requires { ⌜ q < halfWord ⌝ }
     ensures { λ s. ⌜ s ≡ far left (2 * q) (2 * q + 1) ⌝ }
 {
     let first = 2 * q as usize;
@@ -65,11 +68,11 @@ pub fn load(mem: &[u8], s: usize) -> Node
     let b = NODE_WORDS * s + BEFORE_SEATS;
     let links = numbers::words::get(mem, b + 3);
     Node {
-        height: links / 4294967296,
+        height: links / HALF_WORD,
         lo: numbers::words::get(mem, b),
         top: numbers::words::get(mem, b + 1),
         low: numbers::words::get(mem, b + 2),
-        place: links % 4294967296,
+        place: links % HALF_WORD,
     }
 }
 
@@ -92,7 +95,7 @@ pub fn save(mem: &mut [u8], s: usize, n: Node)
 {
     save_sums(mem, s, n);
     let b = NODE_WORDS * s + BEFORE_SEATS;
-    numbers::words::put(mem, b + 3, n.height * 4294967296 + n.place);
+    numbers::words::put(mem, b + 3, n.height * HALF_WORD + n.place);
 }
 
 // Makes the node at one seat that at another too.

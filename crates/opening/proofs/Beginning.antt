@@ -2,7 +2,7 @@
 use mathlib.Core.Path.{_≡_, refl, sym, ap, _∙_}
 use mathlib.Core.Logic.{inr}
 use mathlib.Core.List.{List, [], _∷_}
-use Prim.Native.Nat.{ℕ, zero, suc, _+_, _*_, _-_, _^_, _≤_, _<_}
+use Prim.Native.Nat.{ℕ, zero, suc, _+_, _-_, _^_, _≤_, _<_}
 use native.Mathlib.Numerals.{add-one}
 use native.Mathlib.Decide.{ℕ-discrete}
 use native.Mathlib.Omega.{arith}
@@ -146,7 +146,7 @@ module _ (m m1 m2 ds : List ℕ) (room leap floor : ℕ) (long : need room ≤ l
   abbrev h : List ℕ
   h = bareHeader room leap floor ds
 
-  wider : Past (192 + 64 * places room) m m1
+  wider : Past (need room) m m1
   wider = record { len = d .past .len; byte = λ b l. d .past .byte b (omega arith) }
 
   alone : (z : ℕ) → same z 0 + 0 + 0 ≤ below z (places room)
@@ -169,7 +169,7 @@ module _ (m m1 m2 ds : List ℕ) (room leap floor : ℕ) (long : need room ≤ l
         past = past-then wider (past-kept _ m1 m2 (places room) (s .kept) (λ z l. same-other z rootSeat (omega arith)));
       }
 
-  pub lay-pre : (64 * room + 256 ≤ length m2) × (room < 32768) × (word m2 7 < 65536)
+  pub lay-pre : (need room ≤ length m2) × (room < 32768) × (word m2 7 < 65536)
   lay-pre = omega (arith, part-2 .long, part-2 .heads 7 (omega arith))
 
   pub begun : (m3 : List ℕ) → length ds ≤ mostLines → Laid room room m2 m3 → After m m3 (single (settings room 1 leap ds) floor)

@@ -1,6 +1,6 @@
 // A link of one channel, written into memory of any content: header, one leaf at the root's seat, all other places spare.
 ghost use mathlib.Core.Path.{_≡_};
-ghost use Prim.Native.Nat.{_+_, _*_, _≤_, _<_};
+ghost use Prim.Native.Nat.{_+_, _≤_, _<_};
 ghost use lib.ListN.{length, getD};
 ghost use Rattle.numbers.specs.Words.{word};
 ghost use Rattle.rule.specs.Moments.{lastMoment};
@@ -51,7 +51,7 @@ fn put_header(mem: &mut [u8], room: u64, leap: u64, floor: u64, delays: &[u64])
 
 // The n places from 1 to n become the spare ones, the last one first.
 fn lay(mem: &mut [u8], n: u64)
-    requires { ⌜ (64 * n + 256 ≤ length (now mem)) × (n < 32768) × (word (now mem) 7 < 65536) ⌝ }
+    requires { ⌜ (need n ≤ length (now mem)) × (n < 32768) × (word (now mem) 7 < 65536) ⌝ }
     ensures { λ _. ⌜ Laid n n (now (mem .entry)) (now (mem .exit)) ⌝ }
 {
     let mut k = 0;

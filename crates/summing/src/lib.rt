@@ -3,8 +3,8 @@
 ghost use mathlib.Core.Path.{_≡_};
 ghost use mathlib.Core.Bool.{true};
 ghost use mathlib.Core.Logic.{_↔_};
-ghost use Prim.Native.Nat.{_<_};
-ghost use Rattle.node.specs.Layout.{overNode, summedNode, SameSums, Over, Mendable, Summable, Sums};
+ghost use Prim.Native.Nat.{_-_, _<_};
+ghost use Rattle.node.specs.Layout.{halfWord, overNode, summedNode, SameSums, Over, Mendable, Summable, Sums};
 use node::Node;
 use node::far;
 use node::load;
@@ -29,7 +29,7 @@ fn summed(n: Node, x: Node, y: Node) -> Node
 
 // The node over two others, which stand at place q.
 fn over(x: Node, y: Node, q: u64) -> Node
-    requires { ⌜ (x .height < 4294967295) × (y .height < 4294967295) ⌝ }
+    requires { ⌜ (x .height < halfWord - 1) × (y .height < halfWord - 1) ⌝ }
     ensures { λ n. ⌜ n ≡ overNode x y q ⌝ }
 {
     let bare = Node {

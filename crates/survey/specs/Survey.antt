@@ -7,13 +7,14 @@ use lib.ListN.{length, getD, set}
 use Rattle.rule.specs.Moments.{lastMoment}
 use Rattle.rule.specs.Key.{channelOf}
 use Rattle.shape.specs.Tree.{Tree, leaf, node, height, size, uses}
+use Rattle.node.specs.Layout.{bytesFor}
 use Rattle.node.specs.Rep.{Stands}
 use Rattle.inspect.specs.Inspect.{Near, NextVoid}
 use Rattle.survey.specs.declared.Progress.{Progress}
 
 -- what a survey of a seat may count on: n places in the memory, the seat one of theirs or the root's, an end for each channel, a floor that is a moment
 pub record Reach (m x : List ℕ) (n channels floor seat : ℕ) : Type 0 where
-  pub long : 192 + 64 * n ≤ length m
+  pub long : bytesFor n ≤ length m
   pub small : n ≤ 32768
   pub least : 1 ≤ seat
   pub most : seat < 2 * n

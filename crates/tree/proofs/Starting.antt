@@ -15,7 +15,7 @@ use Rattle.shape.specs.Arrange.{remove, above, setEnd}
 use Rattle.shape.specs.ChangeLaws.{insert-leaf, remove-side, above-side, less-leaf, above-leaf, above-node}
 use Rattle.shape.specs.PlaceLaws.{same-self, same-none}
 use Rattle.node.specs.declared.Node.{Node}
-use Rattle.node.specs.Layout.{Within, nodeAt, leafNode, Saved, Over, Copied, Mendable}
+use Rattle.node.specs.Layout.{halfWord, Within, nodeAt, leafNode, Saved, Over, Copied, Mendable}
 use Rattle.node.specs.Rep.{Stands}
 use Rattle.node.specs.Paths.{longestWay}
 use Rattle.node.proofs.Frames.{kept-then, kept-less, within-kept}
@@ -69,7 +69,7 @@ module _ (m : List ℕ) (s k e q : ℕ) (G : Grafting m s k e q) (n : Node) (en 
   far-in true = G .able .right
   far-in false = G .able .left
 
-  pub graft-in : Within m s × Within m (farSeat d q) × (q < 4294967296)
+  pub graft-in : Within m s × Within m (farSeat d q) × (q < halfWord)
   graft-in = (within (G .able .ready .1 .stands), far-in d, omega (arith, G .able .left .2))
 
   -- the place taken is not that of s

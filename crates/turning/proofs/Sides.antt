@@ -4,12 +4,12 @@ use mathlib.Core.Path.{_≡_, refl, sym, ap, _∙_}
 use mathlib.Core.Logic.{_≢_}
 use mathlib.Core.Bool.{Bool, true, false}
 use mathlib.Core.List.{List}
-use Prim.Native.Nat.{ℕ, _+_, _*_, _/_, _<_, _≤_}
+use Prim.Native.Nat.{ℕ, _+_, _-_, _/_, _<_, _≤_}
 use native.Mathlib.Omega.{arith}
 use Rattle.shape.specs.Tree.{Tree, node, height, same, uses}
 use Rattle.shape.specs.Side.{over, near, far}
 use Rattle.node.specs.declared.Node.{Node}
-use Rattle.node.specs.Layout.{highest, Within, Fits, nodeAt, leafNode, Saved, Over, Copied, Mendable}
+use Rattle.node.specs.Layout.{halfWord, highest, Within, Fits, nodeAt, leafNode, Saved, Over, Copied, Mendable}
 use Rattle.node.specs.Rep.{Stands}
 use Rattle.shape.specs.SideLaws.{weight-over, weight-sides}
 use Rattle.shape.specs.PlaceLaws.{same-self, same-other, same-none}
@@ -47,7 +47,7 @@ two-on false f g r o l = record { first = g; second = f; room = r; once = λ z. 
 
 -- ---- a node over two trees
 pub mendable-on : {m : List ℕ} {t q : ℕ} {a b : Tree} (s : Bool) → Within m t → Stands m (nearSeat s q) a → Stands m (farSeat s q) b
-    → height a < 4294967295 → height b < 4294967295 → Mendable m t q
+    → height a < halfWord - 1 → height b < halfWord - 1 → Mendable m t q
 mendable-on true w f g ha hb = mendable w f g ha hb
 mendable-on false w f g ha hb = mendable w g f hb ha
 
@@ -67,7 +67,7 @@ module _ {m : List ℕ} {t w : ℕ} {a b : Tree} (f : Two m t w a b) where
 pub both-within : (m : List ℕ) (s : Bool) (t w : ℕ) → Both m t w → Within m (nearSeat s w) × Within m (farSeat s w)
 both-within m s t w g = (within (near-stands s w (g .2 .first) (g .2 .second)), within (far-stands s w (g .2 .first) (g .2 .second)))
 
-pub both-small : (m : List ℕ) (t w : ℕ) → Both m t w → w < 4294967296
+pub both-small : (m : List ℕ) (t w : ℕ) → Both m t w → w < halfWord
 both-small m t w g = let i = within (g .2 .first) in omega (arith, i .2)
 
 -- ---- seats as the code has them, by their equations
