@@ -2,30 +2,55 @@
 use mathlib.Core.Path.{_≡_, refl, ap, _∙_}
 use mathlib.Core.Bool.{Bool, true, false, false≢true}
 use mathlib.Core.List.{List}
-use Prim.Native.Nat.{ℕ, _+_, _<_, _≤_}
+use Prim.Native.Nat.{ℕ, _+_, _<_, _≤_, min, max}
 use native.Mathlib.Omega.{arith}
 use lib.ListN.{getD, set}
 use Rattle.rule.specs.Key.{startOf, channelOf}
 use Rattle.node.specs.declared.Node.{Node}
 use Rattle.node.specs.Layout.{leafNode, overNode}
 use Rattle.state.specs.Sound.{Lawful}
-use Rattle.settled.proofs.Saying.{says-yes}
+use Rattle.settled.specs.Says.{Says}
+use Rattle.settled.proofs.Saying.{says-yes, says-map}
 use Rattle.inspect.specs.Inspect.{Single, Near, Joined, NextVoid, Leaf}
 
 fields : (k : Node) → k ≡ record { height = k .height; lo = k .lo; top = k .top; low = k .low; place = k .place }
 fields k = refl
 
-pub single-is : (k : Node) → Single k → k ≡ leafNode (k .lo) (k .top)
-single-is k s = fields k ∙ (rw (s .height, s .low, s .place))
+-- ---- a leaf's node, word by word, as the code compares it
+pub record LeafWords (k : Node) : Type 0 where
+  pub height : k .height ≡ 0
+  pub low : k .low ≡ k .top
+  pub place : k .place ≡ 0
+
+pub says-single : (k : Node) (b : Bool) → Says (LeafWords k) b → Says (Single k) b
+says-single k b =
+    says-map (LeafWords k) (Single k) b (λ w. fields k ∙ (rw (w .height, w .low, w .place)))
+    (λ s. record { height = ap (λ (n : Node). n .height) s; low = ap (λ (n : Node). n .low) s; place = ap (λ (n : Node). n .place) s })
 
 pub leaf-single : (k : Node) (i e : ℕ) → k ≡ leafNode i e → Single k
-leaf-single k i e h = rw h (record { height = refl; low = refl; place = refl })
+leaf-single k i e h = rw h refl
 
-pub joined-is : (k x y : Node) → Joined k x y → k ≡ overNode x y (k .place)
-joined-is k x y j = fields k ∙ (rw (j .height, j .lo, j .top, j .low))
+-- ---- and the node over two others
+pub record OverWords (k x y : Node) : Type 0 where
+  pub height : k .height ≡ max (x .height) (y .height) + 1
+  pub lo : k .lo ≡ x .lo
+  pub top : k .top ≡ max (x .top) (y .top)
+  pub low : k .low ≡ min (x .low) (y .low)
+  pub near : Near (x .height) (y .height)
+
+pub says-joined : (k x y : Node) (b : Bool) → Says (OverWords k x y) b → Says (Joined k x y) b
+says-joined k x y b =
+    says-map (OverWords k x y) (Joined k x y) b (λ w. record { over = fields k ∙ (rw (w .height, w .lo, w .top, w .low)); near = w .near })
+    (λ j. record {
+      height = ap (λ (n : Node). n .height) (j .over);
+      lo = ap (λ (n : Node). n .lo) (j .over);
+      top = ap (λ (n : Node). n .top) (j .over);
+      low = ap (λ (n : Node). n .low) (j .over);
+      near = j .near;
+    })
 
 pub over-joined : (k x y : Node) (q : ℕ) → k ≡ overNode x y q → Near (x .height) (y .height) → Joined k x y
-over-joined k x y q h j = rw h (record { height = refl; lo = refl; top = refl; low = refl; near = j })
+over-joined k x y q h j = rw h (record { over = refl; near = j })
 
 -- the answers of a leaf's test
 pub no-leaf : (c f a : ℕ) (x y : List ℕ) (k : Node) → (Single k × NextVoid c f a (getD x (channelOf (k .lo)) 0) (k .lo) (k .top) → ⊥) → Leaf c f a x y k false

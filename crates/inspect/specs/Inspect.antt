@@ -3,30 +3,26 @@
 use mathlib.Core.Path.{_≡_}
 use mathlib.Core.Bool.{Bool, true}
 use mathlib.Core.List.{List}
-use Prim.Native.Nat.{ℕ, _+_, _≤_, min, max}
+use Prim.Native.Nat.{ℕ, _+_, _≤_}
 use lib.ListN.{getD, set}
 use Rattle.rule.specs.Key.{startOf, channelOf}
 use Rattle.node.specs.declared.Node.{Node}
+use Rattle.node.specs.Layout.{leafNode, overNode}
 use Rattle.state.specs.Sound.{Lawful}
 use Rattle.settled.specs.Says.{Says}
 
 -- n is a leaf's node
-pub record Single (n : Node) : Type 0 where
-  pub height : n .height ≡ 0
-  pub low : n .low ≡ n .top
-  pub place : n .place ≡ 0
+abbrev pub Single : Node → Type 0
+Single n = n ≡ leafNode (n .lo) (n .top)
 
 -- the heights of two children differ by at most 1
 pub record Near (i j : ℕ) : Type 0 where
   pub left : i ≤ j + 1
   pub right : j ≤ i + 1
 
--- n sums up x and y, wherever they stand
+-- n is the node over x and y, wherever they stand, and their heights are balanced
 pub record Joined (n x y : Node) : Type 0 where
-  pub height : n .height ≡ max (x .height) (y .height) + 1
-  pub lo : n .lo ≡ x .lo
-  pub top : n .top ≡ max (x .top) (y .top)
-  pub low : n .low ≡ min (x .low) (y .low)
+  pub over : n ≡ overNode x y (n .place)
   pub near : Near (x .height) (y .height)
 
 -- a void that comes next: its key is not before `from`, and it starts at `last` or later

@@ -15,7 +15,7 @@ use Rattle.node.proofs.Reps.{heightOf, within, left-stands, right-stands, one-t
 use Rattle.node.proofs.Seats.{reads}
 use Rattle.survey.specs.declared.Progress.{Progress}
 use Rattle.inspect.specs.Inspect.{Joined, Leaf}
-use Rattle.inspect.proofs.Inspecting.{single-is, leaf-single, joined-is, over-joined}
+use Rattle.inspect.proofs.Inspecting.{leaf-single, over-joined}
 use Rattle.survey.specs.Survey.{next, run, Good, Taken, Surveyed}
 use Rattle.settled.proofs.Saying.{says-yes, says-no}
 
@@ -53,9 +53,9 @@ module _ (m : List ℕ) (n c f : ℕ) (x : List ℕ) (seat limit a b : ℕ) wher
           yes = λ _. (
             leaf (k .lo) (k .top),
             record {
-              stands = record { rep = (u, sym ek ∙ single-is k (s .0)) };
+              stands = record { rep = (u, sym ek ∙ s .0) };
               inside = λ z g. absurd (omega arith);
-              low = omega (arith, s .0 .height);
+              low = omega (arith, ap heightOf (s .0));
               few = omega arith;
               good = s .1;
             },
@@ -147,7 +147,7 @@ module _ (m : List ℕ) (n c f : ℕ) (x : List ℕ) (seat limit a b : ℕ) wher
                 let g = right .yes found′ in
                 let sv = left-at in
                 let sw = right-at in
-                let over : nodeAt m seat ≡ nodeOf (node (k .place) (d .0) (g .0)) = sym ek ∙ (joined-is k v w joined ∙ (rw (sv, sw))) in
+                let over : nodeAt m seat ≡ nodeOf (node (k .place) (d .0) (g .0)) = sym ek ∙ (joined .over ∙ (rw (sv, sw))) in
                 let fl : Stands m (2 * k .place) (d .0) = rw ei at (d .1 .stands) in
                 let fr : Stands m (2 * k .place + 1) (g .0) = rw ej at (g .1 .stands) in
                 record {
