@@ -1,13 +1,13 @@
 -- One void less, from program point to program point.
-use mathlib.Core.Path.{_≡_, refl, ap, _∙_}
+use mathlib.Core.Path.{_≡_, refl, ap}
 use mathlib.Core.List.{List, _∷_}
-use Prim.Native.Nat.{ℕ, zero, suc, _+_, _*_, _/_, _-_, _≤_, _<_}
+use Prim.Native.Nat.{ℕ, zero, suc, _+_, _*_, _-_, _≤_, _<_}
 use native.Mathlib.Omega.{arith}
-use lib.ListN.{length, getD, set}
+use lib.ListN.{length, set}
 use Rattle.numbers.specs.Words.{word, store}
 use Rattle.shape.specs.Tree.{Tree, same, uses, size}
 use Rattle.shape.specs.PlaceLaws.{same-self}
-use Rattle.shape.specs.Arrange.{remove, above}
+use Rattle.shape.specs.Arrange.{remove}
 use Rattle.shape.specs.ChangeLaws.{weight-remove}
 use Rattle.shape.specs.SizeLaws.{size-remove, tall-node}
 use Rattle.node.specs.Layout.{rootSeat, Within, nodeAt}
@@ -15,8 +15,7 @@ use Rattle.node.proofs.Frames.{kept-less}
 use Rattle.node.proofs.Reps.{tall}
 use Rattle.tracing.specs.Alone.{Alone}
 use Rattle.tree.specs.OnWays.{Removes}
-use Rattle.tree.proofs.Starting.{begun-cutting}
-use Rattle.state.specs.State.{State, first, places, drop}
+use Rattle.state.specs.State.{State, places, drop}
 use Rattle.state.specs.Sound.{among, below}
 use Rattle.memory.specs.Header.{header}
 use Rattle.memory.specs.Holds.{Gives, After}
@@ -32,7 +31,7 @@ module _ (m : List ℕ) (s : State) (L : Link m s) where
 
   pub removal : (k q : ℕ) (m1 : List ℕ) → 2 ≤ size (s .tree) → Removes rootSeat k q m m1 → Removal q m s k m1
   removal k q m1 some f =
-      let r = f (s .tree) (begun-cutting k (sole m s L)) in
+      let r = f (s .tree) (sole m s L) in
       record { link = L; two = some; free = r .0; cut = r .1 }
 
 -- ---- one void less

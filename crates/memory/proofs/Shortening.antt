@@ -1,7 +1,7 @@
 -- The steps that leave every place where it is: another end, another floor. And what any step finds in a link.
 use mathlib.Core.Path.{_≡_}
 use mathlib.Core.List.{List}
-use Prim.Native.Nat.{ℕ, _+_, _/_, _^_, _≤_, _<_}
+use Prim.Native.Nat.{ℕ, _^_, _≤_, _<_}
 use native.Mathlib.Omega.{arith}
 use Rattle.numbers.specs.Words.{word, store}
 use Rattle.shape.specs.Tree.{same, size, uses}
@@ -10,7 +10,6 @@ use Rattle.shape.specs.ChangeLaws.{weight-set}
 use Rattle.tracing.specs.Alone.{Sole, Alone}
 use Rattle.tracing.specs.Ways.{Partway}
 use Rattle.rising.specs.Changes.{ending, Becomes}
-use Rattle.tree.proofs.Starting.{begun-ending}
 use Rattle.node.specs.Layout.{rootSeat}
 use Rattle.node.proofs.Frames.{kept-less}
 use Rattle.tracing.proofs.Paths.{path-partway}
@@ -48,7 +47,7 @@ module _ (m : List ℕ) (s : State) (L : Link m s) where
   pub shortened : (m′ : List ℕ) (k e : ℕ) → Becomes (ending k e) rootSeat m m′ → After m m′ (shorten s k e)
   unfolding shorten
   shortened m′ k e f =
-      let u = f (s .tree) (begun-ending k e sole) in
+      let u = f (s .tree) sole in
       let n = places (s .settings .room) in
       let P = part-tree m m n _ (s .tree) (s .spares) (opened m s L) (λ y. uses y (s .tree)) m′ _ (kept-less (u .kept) (λ z i. omega (arith, i))) (u .stands)
       (λ z. omega (arith, L .placed .all z)) (λ z. omega (arith, L .placed .all z, weight-set 0 (same z) k e (s .tree))) in

@@ -1,12 +1,12 @@
 -- A change of the tree: a void put in, taken out, or given another end. What it asks of the tree at a seat, and what it promises:
 -- the tree after is Arrange's, at the same seat, and which nodes alone may have been written.
 use mathlib.Core.List.{List}
-use Prim.Native.Nat.{ℕ, _+_, _/_, _≤_, _<_}
-use Rattle.shape.specs.Tree.{Tree, height, same, uses, Balanced}
+use Prim.Native.Nat.{ℕ, _+_, _/_}
+use Rattle.shape.specs.Tree.{Tree, same, uses}
 use Rattle.shape.specs.Arrange.{insert, remove, setEnd}
 use Rattle.node.specs.Layout.{Kept}
-use Rattle.node.specs.Paths.{longestWay}
 use Rattle.node.specs.Rep.{Stands}
+use Rattle.tracing.specs.Alone.{Standing}
 
 pub data Change : Type 0 where
   adding : (key end place : ℕ) → Change
@@ -31,11 +31,8 @@ fresh (cutting k) z = 0
 fresh (ending k e) z = 0
 
 -- ---- what a change asks: a tree stands at t, balanced and low; no place is used twice, and t and the place taken are at none of them
-pub record Begun (c : Change) (m : List ℕ) (t : ℕ) (tr : Tree) : Type 0 where
-  pub stands : Stands m t tr
-  pub once : (z : ℕ) → same z (t / 2) + uses z tr + fresh c z ≤ 1
-  pub even : Balanced tr
-  pub low : height tr < longestWay
+abbrev pub Begun : Change → List ℕ → (t : ℕ) → Tree → Type 0
+Begun c m t tr = Standing (fresh c) m t tr
 
 abbrev pub Ready : Change → List ℕ → (t : ℕ) → Type 0
 Ready c m t = (tr : Tree) × Begun c m t tr

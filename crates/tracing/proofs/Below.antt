@@ -3,10 +3,10 @@
 use mathlib.Core.Path.{_≡_, ap, _∙_}
 use mathlib.Core.Bool.{Bool}
 use mathlib.Core.List.{List}
-use Prim.Native.Nat.{ℕ, _+_, _/_, _<_, _≤_}
+use Prim.Native.Nat.{ℕ, _/_, _<_}
 use native.Mathlib.Omega.{arith}
-use Rattle.shape.specs.Tree.{Tree, leaf, node, same, uses}
-use Rattle.shape.specs.Side.{near, far}
+use Rattle.shape.specs.Tree.{Tree, leaf, node, same}
+use Rattle.shape.specs.Side.{near}
 use Rattle.shape.specs.SideLaws.{weight-sides}
 use Rattle.shape.specs.EvenLaws.{kids}
 use Rattle.node.specs.declared.Node.{Node}
@@ -33,13 +33,10 @@ module _ (m : List ℕ) (t : ℕ) (n : Node) (e : n ≡ nodeAt m t) (nz : n .hei
       let c = below q l r g in
       record {
         stands = c .near-at;
-        once = λ z. once z;
+        once = λ z. rw (half q (c .at)) (omega (arith, g .once z, weight-sides (λ k e. 0) (same z) s l r));
         even = kids s q l r (g .even) .first;
         low = omega (arith, g .low, c .high, reads-height m t n e (g .stands));
       }
-    where
-      once : (z : ℕ) → same z (x / 2) + uses z (near s l r) ≤ 1
-      once z = rw (half q (below q l r g .at)) (omega (arith, g .once z, weight-sides (λ k e. 0) (same z) s l r))
 
   -- the seat gone to: a tree stands there alone, and it is lower; another stands on the other side
   pub record Down : Type 0 where

@@ -6,12 +6,16 @@ use Rattle.shape.specs.Tree.{Tree, height, same, uses, Balanced}
 use Rattle.node.specs.Paths.{longestWay}
 use Rattle.node.specs.Rep.{Stands}
 
--- the tree stands at the seat t, each place is used once, and t is at none of them
-pub record Sole (m : List ℕ) (t : ℕ) (tr : Tree) : Type 0 where
+-- the tree stands at the seat t, balanced and low; no place is used twice: not by the tree, nor by t, nor by the further places that n counts
+pub record Standing (n : ℕ → ℕ) (m : List ℕ) (t : ℕ) (tr : Tree) : Type 0 where
   pub stands : Stands m t tr
-  pub once : (z : ℕ) → same z (t / 2) + uses z tr ≤ 1
+  pub once : (z : ℕ) → same z (t / 2) + uses z tr + n z ≤ 1
   pub even : Balanced tr
   pub low : height tr < longestWay
+
+-- and there is no further place
+abbrev pub Sole : List ℕ → (t : ℕ) → Tree → Type 0
+Sole m t tr = Standing (λ z. 0) m t tr
 
 abbrev pub Alone : List ℕ → ℕ → Type 0
 Alone m t = (tr : Tree) × Sole m t tr

@@ -9,8 +9,8 @@ use native.Mathlib.Omega.{arith}
 use borrow.Author.Tests.{eq-eqb, ne-eqb}
 use lib.Dec.{ltb, eqb}
 use lib.ListN.{getD}
-use Rattle.shape.specs.Tree.{Tree, leaf, node, height, same, uses}
-use Rattle.shape.specs.Side.{over, near, far}
+use Rattle.shape.specs.Tree.{Tree, leaf, node, height, same}
+use Rattle.shape.specs.Side.{near, far}
 use Rattle.shape.specs.Arrange.{remove, above, setEnd}
 use Rattle.shape.specs.ChangeLaws.{insert-leaf, remove-side, above-side, less-leaf, above-leaf, above-node}
 use Rattle.shape.specs.PlaceLaws.{same-self, same-none}
@@ -20,26 +20,20 @@ use Rattle.node.specs.Rep.{Stands}
 use Rattle.node.specs.Paths.{longestWay}
 use Rattle.node.proofs.Frames.{kept-then, kept-less, within-kept}
 use Rattle.node.proofs.Reps.{tall, within, leaf-stands}
-use Rattle.node.proofs.Seats.{nearSeat, farSeat, near-half, far-half, near-far, reads, reads-height, over-stands, stands-past, copied-past, Children}
+use Rattle.node.proofs.Seats.{nearSeat, farSeat, near-half, far-half, near-far, reads, reads-height, over-stands, stands-past, copied-past}
 use Rattle.turning.proofs.Sides.{seat-free, mendable-on, uses-sides}
-use Rattle.tracing.specs.Alone.{Sole, Alone}
+use Rattle.tracing.specs.Alone.{Standing, Alone}
 use Rattle.tracing.specs.Ways.{Leads, Way}
 use Rattle.tracing.proofs.Below.{within-alone}
-use Rattle.rising.specs.Changes.{Change, adding, cutting, ending, Begun, Ready, Changed, Becomes}
+use Rattle.rising.specs.Changes.{adding, cutting, ending, Begun, Ready, Becomes}
 use Rattle.rising.specs.Rises.{Rising, Settling}
 use Rattle.rising.proofs.Steps.{begun-near, kid, leads, x-half}
 use Rattle.rising.proofs.Settling.{ready-at}
 use Rattle.tree.specs.OnWays.{Insertable, Grafting}
 
--- ---- what a change asks, of a tree that stands alone
-pub begun-ending : (k e : ℕ) {m : List ℕ} {t : ℕ} {tr : Tree} → Sole m t tr → Begun (ending k e) m t tr
-begun-ending k e S = record { stands = S .stands; once = λ z. omega (arith, S .once z); even = S .even; low = S .low }
-
-pub begun-cutting : (k : ℕ) {m : List ℕ} {t : ℕ} {tr : Tree} → Sole m t tr → Begun (cutting k) m t tr
-begun-cutting k S = record { stands = S .stands; once = λ z. omega (arith, S .once z); even = S .even; low = S .low }
-
-pub alone-ready : (c : Change) (m : List ℕ) (t : ℕ) → Ready c m t → Alone m t
-alone-ready c m t r = (r .0, record { stands = r .1 .stands; once = λ z. omega (arith, r .1 .once z); even = r .1 .even; low = r .1 .low })
+-- ---- whatever further places are counted, such a tree stands alone
+pub alone-ready : (n : ℕ → ℕ) (m : List ℕ) (t : ℕ) → (tr : Tree) × Standing n m t tr → Alone m t
+alone-ready n m t r = (r .0, record { stands = r .1 .stands; once = λ z. omega (arith, r .1 .once z); even = r .1 .even; low = r .1 .low })
 
 pub short-alone : (m : List ℕ) (t : ℕ) → Alone m t → nodeAt m t .height < longestWay
 short-alone m t a = omega (arith, a .1 .low, tall (a .1 .stands))
@@ -162,12 +156,12 @@ module _ (m : List ℕ) (t k d : ℕ) (ws : List ℕ) (W : Way m t k d ws) where
   low-end n e = ap (λ (z : Node). z .height) e ∙ W .last
 
   pub end-in : Alone m t → Within m (at d)
-  end-in a = within-alone m (at d) (alone-ready (ending k 0) m (at d) (ready-at (ending k 0) m t d ws (a .0, begun-ending k 0 (a .1)) W d (omega arith)))
+  end-in a = within-alone m (at d) (ready-at (ending k 0) m t d ws a W d (omega arith))
 
   pub ending-start : Alone m t → (f : ℕ) (n : Node) → n ≡ nodeAt m (at d) → (m1 : List ℕ) → Saved (at d) (leafNode (n .lo) f) m m1 → Settling (ending k f) m t d ws d m1
   ending-start a f n e m1 o =
       record {
-        rising = record { begun = (a .0, begun-ending k f (a .1)); way = W; deep = omega arith; is = set-leaf m m1 (at d) k f n e (low-end n e) o };
+        rising = record { begun = a; way = W; deep = omega arith; is = set-leaf m m1 (at d) k f n e (low-end n e) o };
         high = ap (λ (z : Node). z .height) (o .at) ∙ sym (W .last);
       }
 
@@ -189,7 +183,7 @@ module _ (m : List ℕ) (t k d : ℕ) (ws : List ℕ) (W : Way m t k d ws) where
         go (suc i) e = omega arith
 
     ready : (i : ℕ) → i ≤ d → Ready (cutting k) m (at i)
-    ready i l = ready-at (cutting k) m t d ws (a .0, begun-cutting k (a .1)) W i l
+    ready i l = ready-at (cutting k) m t d ws a W i l
 
     leads-end : Leads m k (at (d - 1)) (at d)
     leads-end = let e : suc (d - 1) ≡ d = omega (arith, deep-one) in rw e at (W .leads (d - 1) (omega (arith, deep-one)))
@@ -203,7 +197,7 @@ module _ (m : List ℕ) (t k d : ℕ) (ws : List ℕ) (W : Way m t k d ws) where
     pub cutting-start : (m1 : List ℕ) → Copied (farSeat (eqb (at d % 2) 0) (at d / 2)) (at (d - 1)) m m1 → Rising (cutting k) m t d ws (d - 1) m1
     cutting-start m1 o =
         record {
-          begun = (a .0, begun-cutting k (a .1));
+          begun = a;
           way = W;
           deep = omega (arith, deep-one);
           is = cut-leaf m k (at (d - 1)) (at d) leads-end (W .last) m1 o;

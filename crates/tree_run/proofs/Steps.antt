@@ -22,7 +22,6 @@ use Rattle.node.proofs.Reps.{leaf-stands, left-stands, right-stands, tall, with
 use Rattle.tracing.specs.Alone.{Alone, Sole}
 use Rattle.rising.specs.Changes.{adding, cutting, ending, Begun, Changed, Becomes}
 use Rattle.tree.specs.OnWays.{Insertable, Removes}
-use Rattle.tree.proofs.Starting.{begun-ending, begun-cutting}
 use Rattle.search.specs.Search.{Searchable}
 use Rattle.tree_run.specs.Grown.{Grown, Has, voids, bytes}
 
@@ -98,7 +97,7 @@ module _ (m m′ : List ℕ) (key q : ℕ) (x : Has m voids) (r : Removes rootSe
   t = remove key (x .0)
 
   cut : (q ≡ above key (x .0)) × Changed (cutting key) rootSeat (x .0) m m′
-  cut = r (x .0) (begun-cutting key (lone m voids (omega arith) (x .0) (x .1)))
+  cut = r (x .0) (lone m voids (omega arith) (x .0) (x .1))
 
   gone : (z : ℕ) → uses z t + same z q ≡ uses z (x .0)
   gone z = omega (arith, ap (same z) (cut .0), weight-remove 0 (same z) key (x .0) (high (x .0) (omega (arith, x .1 .many))))
@@ -142,7 +141,7 @@ ended m m′ key e x b =
     let w : (z : ℕ) → uses z (setEnd key e (x .0)) ≡ uses z (x .0) = λ z. weight-set 0 (same z) key e (x .0) in (
       setEnd key e (x .0),
       record {
-        stands = b (x .0) (begun-ending key e (lone m voids (omega arith) (x .0) (x .1))) .stands;
+        stands = b (x .0) (lone m voids (omega arith) (x .0) (x .1)) .stands;
         once = λ z. omega (arith, w z, x .1 .once z);
         free = λ z y. omega (arith, w z, x .1 .free z y);
         even = even-set key e (x .0) (x .1 .even);
