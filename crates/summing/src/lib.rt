@@ -4,6 +4,7 @@ ghost use mathlib.Core.Path.{_≡_};
 ghost use mathlib.Core.Bool.{true};
 ghost use mathlib.Core.Logic.{_↔_};
 ghost use Prim.Native.Nat.{_-_, _<_};
+ghost use Rattle.shape.specs.Side.{near, far};
 ghost use Rattle.node.specs.Layout.{halfWord, overNode, summedNode, SameSums, Over, Mendable, Summable, Sums};
 use node::Node;
 use node::far;
@@ -14,23 +15,30 @@ use node::save_sums;
 use numbers::pairs::larger;
 use numbers::pairs::smaller;
 
-// The node n over two others, its sums taken anew.
-fn summed(n: Node, x: Node, y: Node) -> Node
-    ensures { λ s. ⌜ s ≡ summedNode n x y ⌝ }
+// The least key below two nodes, of which x is on the side named.
+fn least(left: bool, x: Node, y: Node) -> u64
+    ensures { λ k. ⌜ k ≡ near left (x .lo) (y .lo) ⌝ }
+{
+    if left { x.lo } else { y.lo }
+}
+
+// The node n over two others, of which x is on the side named, its sums taken anew.
+fn summed(left: bool, n: Node, x: Node, y: Node) -> Node
+    ensures { λ s. ⌜ s ≡ summedNode n (near left x y) (far left x y) ⌝ }
 {
     Node {
         height: n.height,
-        lo: x.lo,
+        lo: least(left, x, y),
         top: larger(x.top, y.top),
         low: smaller(x.low, y.low),
         place: n.place,
     }
 }
 
-// The node over two others, which stand at place q.
-fn over(x: Node, y: Node, q: u64) -> Node
+// The node over two others, which stand at place q, x on the side named.
+pub fn over(left: bool, x: Node, y: Node, q: u64) -> Node
     requires { ⌜ (x .height < halfWord - 1) × (y .height < halfWord - 1) ⌝ }
-    ensures { λ n. ⌜ n ≡ overNode x y q ⌝ }
+    ensures { λ n. ⌜ n ≡ overNode (near left x y) (far left x y) q ⌝ }
 {
     let bare = Node {
         height: larger(x.height, y.height) + 1,
@@ -39,7 +47,7 @@ fn over(x: Node, y: Node, q: u64) -> Node
         low: 0,
         place: q,
     };
-    summed(bare, x, y)
+    summed(left, bare, x, y)
 }
 
 // Writes the node at seat s over the nodes at place q.
@@ -47,7 +55,7 @@ pub fn mend(mem: &mut [u8], s: usize, q: u64)
     requires { ⌜ Mendable (now mem) s q ⌝ }
     ensures { λ _. ⌜ Over s q (now (mem .entry)) (now (mem .exit)) ⌝ }
 {
-    let n = over(load(mem, near(true, q)), load(mem, far(true, q)), q);
+    let n = over(true, load(mem, near(true, q)), load(mem, far(true, q)), q);
     save(mem, s, n);
 }
 
@@ -72,7 +80,7 @@ pub fn sum_up(mem: &mut [u8], s: usize, q: u64) -> bool
     let n = load(mem, s);
     let x = load(mem, near(true, q));
     let y = load(mem, far(true, q));
-    let t = summed(n, x, y);
+    let t = summed(true, n, x, y);
     if alike(n, t) {
         return false;
     }

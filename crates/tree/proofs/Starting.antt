@@ -13,15 +13,16 @@ use Rattle.shape.specs.Tree.{Tree, leaf, node, height, same}
 use Rattle.shape.specs.Side.{near, far}
 use Rattle.shape.specs.Arrange.{remove, above, setEnd}
 use Rattle.shape.specs.ChangeLaws.{insert-leaf, remove-side, above-side, less-leaf, above-leaf, above-node}
-use Rattle.shape.specs.PlaceLaws.{same-self, same-none}
+use Rattle.shape.specs.PlaceLaws.{same-self, same-other, same-none}
 use Rattle.node.specs.declared.Node.{Node}
-use Rattle.node.specs.Layout.{halfWord, Within, nodeAt, leafNode, Saved, Over, Copied, Mendable}
+use Rattle.node.specs.Layout.{halfWord, Within, Fits, nodeAt, leafNode, overNode, Saved, Over, Copied}
 use Rattle.node.specs.Rep.{Stands}
 use Rattle.node.specs.Paths.{longestWay}
-use Rattle.node.proofs.Frames.{kept-then, kept-less, within-kept}
+use Rattle.node.proofs.Frames.{kept-then, kept-less, node-kept, within-kept}
+use Rattle.node.proofs.Nodes.{over-fits}
 use Rattle.node.proofs.Reps.{tall, within, leaf-stands}
 use Rattle.node.proofs.Seats.{nearSeat, farSeat, near-half, far-half, near-far, reads, reads-height, over-stands, stands-past, copied-past}
-use Rattle.turning.proofs.Sides.{seat-free, mendable-on, uses-sides}
+use Rattle.turning.proofs.Sides.{seat-free, uses-sides}
 use Rattle.tracing.specs.Alone.{Standing, Alone}
 use Rattle.tracing.specs.Ways.{Leads, Way}
 use Rattle.tracing.proofs.Below.{within-alone}
@@ -84,12 +85,27 @@ module _ (m : List ℕ) (s k e q : ℕ) (G : Grafting m s k e q) (n : Node) (en 
       old-leaf : (j v : ℕ) → Begun (adding k e q) m s (leaf j v) → Stands m2 (farSeat d q) (leaf j v)
       old-leaf j v B = stands-past (near-half d q) (o2 .kept) (λ i. near-far d q (sym i)) refl (copied-past (far-half d q) o1 (far-in d) refl (B .stands))
 
-      pub graft-mendable : Mendable m2 s q
-      graft-mendable = go (G .able .ready .0) (G .able .ready .1)
-        where
-          go : (tr : Tree) → Begun (adding k e q) m s tr → Mendable m2 s q
-          go (leaf j v) B = mendable-on d room new-leaf (old-leaf j v B) (omega arith) (omega arith)
-          go (node x l r) B = absurd (omega (arith, G .leaf, tall (B .stands)))
+      old-at : nodeAt m2 (farSeat d q) ≡ n
+      old-at = node-kept _ m1 m2 (o2 .kept) (farSeat d q) (same-other _ _ (λ i. near-far d q (sym i))) ∙ (o1 .at ∙ sym en)
+
+      both-at : (b : Bool) (x : Node) → x ≡ leafNode k e → nodeAt m2 (nearSeat b q) ≡ leafNode k e → nodeAt m2 (farSeat b q) ≡ n → overNode (near b x n) (far b x n) q ≡ overNode (nodeAt m2 (2 * q)) (nodeAt m2 (2 * q + 1)) q
+      both-at true x ex a c = rw (ex, a, c)
+      both-at false x ex a c = rw (ex, a, c)
+
+      -- the node over the two as the code has them
+      module _ (x : Node) (ex : x ≡ leafNode k e) where
+        pub low-leaves : (x .height < halfWord - 1) × (n .height < halfWord - 1)
+        low-leaves = let z : n .height ≡ 0 = ap (λ (y : Node). y .height) en ∙ G .leaf in (rw ex (omega arith), omega arith)
+
+        both-low : (b : Bool) → (near b x n .height < halfWord - 1) × (far b x n .height < halfWord - 1)
+        both-low true = low-leaves
+        both-low false = (low-leaves .1, low-leaves .0)
+
+        pub over-in : (o : Node) → o ≡ overNode (near d x n) (far d x n) q → Within m2 s × Fits o
+        over-in o eo = (room, over-fits (near d x n) (far d x n) o q eo (both-low d .0) (both-low d .1) (graft-in .2))
+
+        pub over-both : (o : Node) → o ≡ overNode (near d x n) (far d x n) q → (m3 : List ℕ) → Saved s o m2 m3 → Over s q m2 m3
+        over-both o eo m3 u = rw (eo ∙ both-at d x ex (o2 .at) old-at) at u
 
       pub grafted : (m3 : List ℕ) → Over s q m2 m3 → Becomes (adding k e q) s m m3
       grafted m3 o3 (leaf j v) B =

@@ -36,16 +36,18 @@ pub fn set_end(mem: &mut [u8], t: usize, key: u64, end: u64)
     set_end_on(mem, &mut way, 0, key, end);
 }
 
-// Puts a leaf beside the one at seat s, both at place q, and a node over them at s.
+// Puts a leaf beside the one at seat s, both at place q, and a node over them at s: from the two as they are here, not as they were
+// just written.
 fn graft(mem: &mut [u8], s: usize, key: u64, end: u64, q: u64)
     requires { ⌜ Grafting (now mem) s key end q ⌝ }
     ensures { λ _. ⌜ Becomes (adding key end q) s (now (mem .entry)) (now (mem .exit)) ⌝ }
 {
     let n = node::load(mem, s);
     let left = key < n.lo;
+    let leaf = node::leaf(key, end);
     node::copy(mem, s, far(left, q));
-    node::save(mem, near(left, q), node::leaf(key, end));
-    summing::mend(mem, s, q);
+    node::save(mem, near(left, q), leaf);
+    node::save(mem, s, summing::over(left, leaf, n, q));
 }
 
 // Puts a leaf into a tree, at the end of the way that its key leads, under a new node whose children stand at place q.
