@@ -22,8 +22,7 @@ use Rattle.state.specs.Sound.{among, below}
 use Rattle.state.specs.ClearLaws.{weightOf, EvenOf, countOf, Cleared, among-append, clear-ok}
 use Rattle.memory.specs.Holds.{Gives}
 use Rattle.memory.proofs.Parts.{below-in, below-most, below-out, past-then}
-use Rattle.clearing.specs.declared.Left.{Left}
-use Rattle.clearing.specs.Clears.{Ground, Site, LeftAt, Cleaned}
+use Rattle.clearing.specs.Clears.{Left, Ground, Site, LeftAt, Cleaned}
 use Rattle.clearing.proofs.Grounds.{ground-here, ground-kept, give-pre, nodes-given, ground-given}
 
 -- how often a place is used in what is left

@@ -16,8 +16,7 @@ use Rattle.node.proofs.Seats.{small-place}
 use Rattle.turning.specs.Turns.{Both}
 use Rattle.joining.specs.Joins.{Joins}
 use Rattle.memory.specs.Holds.{Gives}
-use Rattle.clearing.specs.declared.Left.{Left}
-use Rattle.clearing.specs.Clears.{Site, Cleaned, Clearable, Cleans}
+use Rattle.clearing.specs.Clears.{Left, Site, Cleaned, Clearable, Cleans}
 use Rattle.clearing.proofs.Cleaning.{untouched, leaf-gone, site-left, site-right, seat-in, few-2, node-pre, left-side-gone, right-side-gone, both-left, joined}
 
 module _ (b : ℕ) (m : List ℕ) (s k : ℕ) where

@@ -20,8 +20,7 @@ use Rattle.memory.specs.Holds.{After}
 use Rattle.memory.specs.Part.{Part}
 use Rattle.memory.proofs.Parts.{part-some, part-put, opened, closed}
 use Rattle.memory.proofs.Shortening.{sole}
-use Rattle.clearing.specs.declared.Left.{Left}
-use Rattle.clearing.specs.Clears.{Site, LeftAt, Cleaned, Clearable, Cleans, Lasting}
+use Rattle.clearing.specs.Clears.{Left, Site, LeftAt, Cleaned, Clearable, Cleans, Lasting}
 
 module _ (bound : ℕ) (m : List ℕ) (s : State) (L : Lasting bound m s) where
   abbrev n : ℕ

@@ -2,7 +2,7 @@
 -- nothing else has changed.
 use mathlib.Core.Path.{_≡_}
 use mathlib.Core.Logic.{_≢_}
-use mathlib.Core.Bool.{true, false}
+use mathlib.Core.Bool.{Bool, true, false}
 use mathlib.Core.List.{List, _++_}
 use Prim.Native.Nat.{ℕ, _+_, _/_, _≤_, _<_}
 use lib.ListN.{length, getD}
@@ -16,7 +16,6 @@ use Rattle.state.specs.Sound.{among, below}
 use Rattle.state.specs.Act.{cleared}
 use Rattle.memory.specs.Holds.{Spares, Past, After}
 use Rattle.memory.specs.Steps.{Link}
-use Rattle.clearing.specs.declared.Left.{Left}
 
 -- m has the header h, but for the first spare place, and the spare places ps; past its n places all is as it was in m0
 pub record Ground (m0 m : List ℕ) (n : ℕ) (h ps : List ℕ) : Type 0 where
@@ -37,7 +36,12 @@ pub record Site (n : ℕ) (h m : List ℕ) (s : ℕ) (t : Tree) (ps : List ℕ) 
   pub once : (z : ℕ) → same z (s / 2) + uses z t + among z ps ≤ below z n
   pub few : length ps + size t ≤ 65536
 
--- what the code says is left at the seat s
+-- what the code says is left of a tree: nothing, or a tree at its seat; and how many places are spare now
+pub record Left : Type 0 where
+  pub gone : Bool
+  pub spare : ℕ
+
+-- what it says is left at the seat s
 abbrev pub LeftAt : List ℕ → (s : ℕ) → Left → Rest → Type 0
 LeftAt m s x gone = x .gone ≡ true
 LeftAt m s x (rest u) = (x .gone ≡ false) × Stands m s u

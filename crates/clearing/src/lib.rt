@@ -8,50 +8,37 @@ use node::near;
 use numbers::words::get;
 use numbers::words::put;
 
-// What is left of a tree: nothing, or a tree at its seat; and how many places are spare now.
-pub struct Left {
-    pub gone: bool,
-    pub spare: u64,
-}
-
-// Clears the tree at seat s, each place that comes free being given back to the spare ones, of which there are so many.
-fn below(mem: &mut [u8], s: usize, bound: u64, spare: u64) -> Left
-    requires { ⌜ Clearable (now mem) s spare ⌝ }
-    ensures { λ x. ⌜ Cleans bound s spare x (now (mem .entry)) (now (mem .exit)) ⌝ }
+// Clears the tree at seat s, each place that comes free being given back to the spare ones, of which there are so many. Whether nothing
+// is left. The number is lent, not returned: what returns fits a register (docs/DECISIONS.md).
+fn below(mem: &mut [u8], s: usize, bound: u64, spare: &mut u64) -> bool
+    requires { ⌜ Clearable (now mem) s (now spare) ⌝ }
+    ensures { λ gone. ⌜ Cleans bound s (now (spare .entry)) (record { gone = gone; spare = now (spare .exit) }) (now (mem .entry)) (now (mem .exit)) ⌝ }
 {
     let n = node::load(mem, s);
     if bound <= n.low {
-        return Left { gone: false, spare };
+        return false;
     }
     if n.height == 0 {
-        return Left { gone: true, spare };
+        return true;
     }
     let left = near(true, n.place);
     let right = far(true, n.place);
-    let l = below(mem, left, bound, spare);
-    let r = below(mem, right, bound, l.spare);
-    let many = r.spare;
-    if l.gone {
+    let left_gone = below(mem, left, bound, spare);
+    let right_gone = below(mem, right, bound, spare);
+    if left_gone {
         copy(mem, right, s);
-        memory::give_spare(mem, n.place, many);
-        return Left {
-            gone: r.gone,
-            spare: many + 1,
-        };
+        memory::give_spare(mem, n.place, *spare);
+        *spare = *spare + 1;
+        return right_gone;
     }
-    if r.gone {
+    if right_gone {
         copy(mem, left, s);
-        memory::give_spare(mem, n.place, many);
-        return Left {
-            gone: false,
-            spare: many + 1,
-        };
+        memory::give_spare(mem, n.place, *spare);
+        *spare = *spare + 1;
+        return false;
     }
     joining::join(mem, s, n.place);
-    Left {
-        gone: false,
-        spare: many,
-    }
+    false
 }
 
 // The voids of a link that end before the bound go. How many.
@@ -62,8 +49,9 @@ pub fn clear(mem: &mut [u8], bound: u64) -> u64
     let kept = get(mem, memory::KEPT);
     let room = get(mem, memory::ROOM);
     let spare = room + 1 - kept;
-    let x = below(mem, node::ROOT, bound, spare);
-    let dropped = x.spare - spare;
+    let mut many = spare;
+    let _ = below(mem, node::ROOT, bound, &mut many);
+    let dropped = many - spare;
     put(mem, memory::KEPT, kept - dropped);
     dropped
 }

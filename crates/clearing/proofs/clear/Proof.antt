@@ -18,13 +18,13 @@ sub-spare : tie.Need-sub-spare
 sub-spare c = omega (arith, counts (c .before .before .before .before .before .args .bound) _ _ (c .before .before .before .before .before .pre .1) _ _ (c .before .before .get .ensures) (c .get2 .ensures))
 
 below-requires : tie.Need-below-requires
-below-requires c κs = clearable (c .before .before .before .before .before .before .args .bound) _ _ (c .before .before .before .before .before .before .pre .1) _ _ (c .before .before .before .get .ensures) (c .before .get2 .ensures)
+below-requires c κs = clearable (c .before .before .before .before .before .before .before .args .bound) _ _ (c .before .before .before .before .before .before .before .pre .1) _ _ (c .before .before .before .before .get .ensures) (c .before .before .get2 .ensures)
 
 sub-dropped : tie.Need-sub-dropped
-sub-dropped c = omega (arith, in-range (c .before .before .before .before .before .before .before .before .before .before .args .bound) _ _ (c .before .before .before .before .before .before .before .before .before .before .pre .1) _ _ (c .before .before .before .before .before .before .before .get .ensures) (c .before .before .before .before .before .get2 .ensures) _ _ (c .before .before .before .below .ensures))
+sub-dropped c = omega (arith, in-range (c .before .before .before .before .before .before .before .before .before .before .args .bound) _ _ (c .before .before .before .before .before .before .before .before .before .before .pre .1) _ _ (c .before .before .before .before .before .before .before .get .ensures) (c .before .before .before .before .before .get2 .ensures) _ _ (c .before .before .below .ensures))
 
 sub-put : tie.Need-sub-put
-sub-put c = omega (arith, in-range (c .before .before .before .before .before .before .before .before .before .before .before .args .bound) _ _ (c .before .before .before .before .before .before .before .before .before .before .before .pre .1) _ _ (c .before .before .before .before .before .before .before .before .get .ensures) (c .before .before .before .before .before .before .get2 .ensures) _ _ (c .before .before .before .before .below .ensures))
+sub-put c = omega (arith, in-range (c .before .before .before .before .before .before .before .before .before .before .before .args .bound) _ _ (c .before .before .before .before .before .before .before .before .before .before .before .pre .1) _ _ (c .before .before .before .before .before .before .before .before .get .ensures) (c .before .before .before .before .before .before .get2 .ensures) _ _ (c .before .before .before .below .ensures))
 
 put-requires : tie.Need-put-requires
 put-requires c κs = search needs
@@ -33,7 +33,7 @@ same-length : tie.Need-same-length
 same-length c = search needs
 
 returns : tie.Need-returns
-returns c = λ s L. closed-up (c .before .before .before .before .before .before .before .before .before .before .before .before .before .before .args .bound) _ s L _ _ (c .before .before .before .before .before .before .before .before .before .before .before .get .ensures) (c .before .before .before .before .before .before .before .before .before .get2 .ensures) _ _ (c .before .before .before .before .before .before .before .below .ensures) _ (c .before .before .put .ensures)
+returns c = λ s L. closed-up (c .before .before .before .before .before .before .before .before .before .before .before .before .before .before .args .bound) _ s L _ _ (c .before .before .before .before .before .before .before .before .before .before .before .get .ensures) (c .before .before .before .before .before .before .before .before .before .get2 .ensures) _ _ (c .before .before .before .before .before .before .below .ensures) _ (c .before .before .put .ensures)
 
 pub clear-spec : {M : Type 1} → statement M
 clear-spec =
