@@ -66,8 +66,8 @@ module _ (m : List ℕ) (s : State) (L : Link m s) (fit : word m 6 ≤ word m 0)
   apart : (z : ℕ) → same z 0 + uses z (s .tree) + (same z Q + among z Z) ≡ below z n
   apart z = rw split at (L .placed .all z)
 
-  pub take : Within m (2 * word m 7)
-  take = first-in m m n (header s) (s .tree) Q Z part-0 refl
+  pub spare-in : Within m (2 * word m 7)
+  spare-in = first-in m m n (header s) (s .tree) Q Z part-0 refl
 
   module _ (m1 : List ℕ) (q : ℕ) (eq : q ≡ word m 7) (em : m1 ≡ store m 7 (nodeAt m (2 * q) .place)) (k e : ℕ) where
     step-1 : (q ≡ Q) × Part m m1 n (set (header s) 7 (first Z)) (s .tree) Z

@@ -73,13 +73,14 @@ pub fn shorten(mem: &mut [u8], way: &mut [u16], noted: usize, key: u64, end: u64
     tree::set_end_on(mem, way, noted, key, end);
 }
 
-// One void more, to which the way noted leads.
+// One void more, to which the way noted leads. The way is handed on as a slice of its own: so it stays in registers here, and
+// nothing waits for its two halves to be written and read again as one (docs/DECISIONS.md).
 pub fn add_on(mem: &mut [u8], way: &[u16], depth: usize, key: u64, end: u64)
     requires { ⌜ Led (now way) depth key (now mem) ⌝ }
     ensures { λ _. ⌜ Adds key end (now (mem .entry)) (now (mem .exit)) ⌝ }
 {
     let q = take_spare(mem);
-    tree::insert_on(mem, way, depth, key, end, q);
+    tree::insert_on(mem, &way[0..], depth, key, end, q);
     let kept = get(mem, KEPT);
     put(mem, KEPT, kept + 1);
 }
