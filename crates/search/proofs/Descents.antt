@@ -32,11 +32,11 @@ module _ (m : List ℕ) (s q f : ℕ) (ws : List ℕ) (i : ℕ) (D : Descendable
   pub few : (d : Descent) → ((t : Tree) → Stands m s t → Descended m f t d) → d .visits ≤ 64
   few d k = omega (arith, k (D .tree) (D .stands) .counts, descended-most f (D .tree), D .low)
 
-  pub ends-here : q ≡ 0 → ((t : Tree) → Stands m s t → Descended m f t (record { seat = s; visits = 0; depth = i }))
-      × Prolonged m i ws ws (record { seat = s; visits = 0; depth = i })
+  pub ends-here : q ≡ 0 → ((t : Tree) → Stands m s t → Descended m f t (record { seat = s; visits = 0 }))
+      × Prolonged m i ws ws i s
   ends-here h = (
     (λ t g. let l = leaf-here (D .place) h t g in rw l (record { stands = rw l at g; ends = refl; counts = refl })),
-    record { deep = omega arith; long = omega (arith, D .low, D .long); stays = λ j l. refl; steps = λ j l u. absurd (omega arith); last = D .here },
+    record { deep = omega arith; long = omega (arith, D .low, D .long); short = omega (arith, D .low); stays = λ j l. refl; steps = λ j l u. absurd (omega arith); last = D .here },
   )
 
   module _ (h : q ≡ 0 → ⊥) where
@@ -46,30 +46,34 @@ module _ (m : List ℕ) (s q f : ℕ) (ws : List ℕ) (i : ℕ) (D : Descendable
     pub room : (i + 1 < length ws) × (i + 1 < longestWay)
     room = omega (arith, D .low, D .long, inner-here (D .place) h (D .tree) (D .stands) .lower true)
 
+    -- a seat noted one step down
+    at-here : (at : ℕ) → getD (set ws (i + 1) at) (i + 1) 0 ≡ at
+    at-here at = getD-set-same ws (i + 1) at 0 (room .0)
+
     -- the child gone to, at the seat `at`
     module _ (b : Bool) (at : ℕ) (ea : at ≡ nearSeat (not b) q) where
-      pub at-lower : nodeAt m at .height < nodeAt m s .height
-      at-lower = child-lower (not b) (D .place) h at ea (D .tree) (D .stands)
+      pub at-lower : nodeAt m (getD (set ws (i + 1) at) (i + 1) 0) .height < nodeAt m s .height
+      at-lower = rw (at-here at) (child-lower (not b) (D .place) h at ea (D .tree) (D .stands))
 
       -- y and x are the nodes on the right and on the left
       pub at-descendable : (p : ℕ) → p ≡ nearSeat false q → (y : Node) → y ≡ nodeAt m p → (l : ℕ) → l ≡ nearSeat true q → (x : Node) → x ≡ nodeAt m l
-          → (z : ℕ) → z ≡ pick b (y .place) (x .place) → Descendable m at z (set ws (i + 1) at) (i + 1)
+          → (z : ℕ) → z ≡ pick b (y .place) (x .place) → Descendable m (getD (set ws (i + 1) at) (i + 1) 0) z (set ws (i + 1) at) (i + 1)
       at-descendable p ep y ey l el x ex z ez =
           let c = inner-here (D .place) h (D .tree) (D .stands) in
           record {
             tree = near (not b) (c .left) (c .right);
-            stands = rw ea (c .child (not b));
-            place = place-next m q b p ep y ey l el x ex at ea z ez;
+            stands = rw (at-here at, ea) (c .child (not b));
+            place = rw (at-here at) (place-next m q b p ep y ey l el x ex at ea z ez);
             low = omega (arith, c .lower (not b), D .low);
             long = omega (arith, D .long, length-set ws (i + 1) at);
-            here = getD-set-same ws (i + 1) at 0 (room .0);
+            here = refl;
           }
 
     -- y is the node on the right, and the descent goes on at the seat `at`
     module _ (p : ℕ) (ep : p ≡ nearSeat false q) (y : Node) (ey : y ≡ nodeAt m p) (at : ℕ) (ea : at ≡ nearSeat (not (leb f (y .top))) q) where
       -- what is found below is what is found here
-      module _ (ws′ : List ℕ) (d : Descent) (k : (t : Tree) → Stands m at t → Descended m f t d) (v : ℕ) (ev : v ≡ pick (not (leb f (y .top))) 2 1) where
-        descended-on : (t : Tree) → Stands m s t → Descended m f t (record { seat = d .seat; visits = d .visits + v; depth = d .depth })
+      module _ (ws′ : List ℕ) (n : ℕ) (d : Descent) (k : (t : Tree) → Stands m (getD (set ws (i + 1) at) (i + 1) 0) t → Descended m f t d) (v : ℕ) (ev : v ≡ pick (not (leb f (y .top))) 2 1) where
+        descended-on : (t : Tree) → Stands m s t → Descended m f t (record { seat = d .seat; visits = d .visits + v })
         descended-on t g =
             let c = inner-here (D .place) h t g in
             let right : Stands m p (c .right) = rw ep (c .child false) in
@@ -77,21 +81,22 @@ module _ (m : List ℕ) (s q f : ℕ) (ws : List ℕ) (i : ℕ) (D : Descendable
             elim (case-le f (y .top)) [
               | inl z ↦ let b : leb f (top (c .right)) ≡ true = rw same at (z .1) in
                   let e : at ≡ nearSeat false q = rw (z .1) at ea in
-                  let K = k (c .right) (rw e (c .child false)) in
+                  let K = k (c .right) (rw (at-here at, e) (c .child false)) in
                   let w : v ≡ 1 = rw (z .1) at ev in
                   rw (c .is) (record { stands = K .stands; ends = rw b (K .ends); counts = rw b (omega (arith, K .counts, w)) })
               | inr z ↦ let b : leb f (top (c .right)) ≡ false = rw same at (z .1) in
                   let e : at ≡ nearSeat true q = rw (z .1) at ea in
-                  let K = k (c .left) (rw e (c .child true)) in
+                  let K = k (c .left) (rw (at-here at, e) (c .child true)) in
                   let w : v ≡ 2 = rw (z .1) at ev in
                   rw (c .is) (record { stands = K .stands; ends = rw b (K .ends); counts = rw b (omega (arith, K .counts, w)) })
             ]
 
-        prolonged-on : Prolonged m (i + 1) (set ws (i + 1) at) ws′ d → Prolonged m i ws ws′ (record { seat = d .seat; visits = d .visits + v; depth = d .depth })
+        prolonged-on : Prolonged m (i + 1) (set ws (i + 1) at) ws′ n (d .seat) → Prolonged m i ws ws′ n (d .seat)
         prolonged-on P =
             record {
               deep = omega (arith, P .deep);
               long = P .long;
+              short = P .short;
               stays = λ j l. P .stays j (omega arith) ∙ noted ws i at j l;
               steps = λ j l u. go j l u;
               last = P .last;
@@ -106,10 +111,10 @@ module _ (m : List ℕ) (s q f : ℕ) (ws : List ℕ) (i : ℕ) (D : Descendable
             child : Child m s at
             child = record { inner = high-here (D .place) h (D .tree) (D .stands); is = ap (λ (a : ℕ). a / 2) ea ∙ near-half (not (leb f (y .top))) q ∙ D .place }
 
-            go : (j : ℕ) → i ≤ j → j < d .depth → Child m (getD ws′ j 0) (getD ws′ (suc j) 0)
-            go j l u = elim (ℕ-discrete j i) [ yes e ↦ rw (e, here, there) child | no n ↦ P .steps j (omega arith) u ]
+            go : (j : ℕ) → i ≤ j → j < n → Child m (getD ws′ j 0) (getD ws′ (suc j) 0)
+            go j l u = elim (ℕ-discrete j i) [ yes e ↦ rw (e, here, there) child | no z ↦ P .steps j (omega arith) u ]
 
-        pub goes-on : Prolonged m (i + 1) (set ws (i + 1) at) ws′ d
-            → ((t : Tree) → Stands m s t → Descended m f t (record { seat = d .seat; visits = d .visits + v; depth = d .depth }))
-            × Prolonged m i ws ws′ (record { seat = d .seat; visits = d .visits + v; depth = d .depth })
+        pub goes-on : Prolonged m (i + 1) (set ws (i + 1) at) ws′ n (d .seat)
+            → ((t : Tree) → Stands m s t → Descended m f t (record { seat = d .seat; visits = d .visits + v }))
+            × Prolonged m i ws ws′ n (d .seat)
         goes-on P = ((λ t g. descended-on t g), prolonged-on P)

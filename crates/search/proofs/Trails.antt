@@ -140,11 +140,9 @@ module _ (m : List ℕ) (b : ℕ) (ws : List ℕ) (t : Trail) (D : Followable m 
     pub follows-next : (l : ℕ) → l ≡ nearSeat true (t .place) → (u : Node) → u ≡ nodeAt m l → (z : ℕ) → z ≡ pick (leb (v .lo) b) (v .place) (u .place)
         → Follows m b t (record { place = z; deep = t .deep + 1; after = a }) ws (set ws (t .deep + 1) x)
     follows-next l el u eu z ez =
-        let N = at-descendable _ _ _ 0 _ _ D h (leb (v .lo) b) x ex p ep v ev l el u eu z ez in
-        let o = getD-set-same ws (t .deep + 1) x 0 deep in
         record {
-          able = rw o N;
-          lower = λ n. rw o (at-lower _ _ _ 0 _ _ D h (leb (v .lo) b) x ex);
+          able = at-descendable _ _ _ 0 _ _ D h (leb (v .lo) b) x ex p ep v ev l el u eu z ez;
+          lower = λ n. at-lower _ _ _ 0 _ _ D h (leb (v .lo) b) x ex;
           trails = λ root T. trails-next root T z;
         }
 

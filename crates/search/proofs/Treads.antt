@@ -107,10 +107,10 @@ beside-down m root d ws x (suc i) D h l e =
     rw q (down-next m root i ws P x (record { inner = s .inner; is = e ∙ s .is }) (omega (arith, D .long)))
 
 -- a way prolonged
-prolonged-down : (m : List ℕ) (root i : ℕ) (ws ws′ : List ℕ) (d : Descent) → Down m root i ws → Prolonged m i ws ws′ d → Down m root (d .depth) ws′
-prolonged-down m root i ws ws′ d D P = record { long = P .long; first = P .stays 0 (omega arith) ∙ D .first; steps = λ j l. go j l }
+prolonged-down : (m : List ℕ) (root i : ℕ) (ws ws′ : List ℕ) (n x : ℕ) → Down m root i ws → Prolonged m i ws ws′ n x → Down m root n ws′
+prolonged-down m root i ws ws′ n x D P = record { long = P .long; first = P .stays 0 (omega arith) ∙ D .first; steps = λ j l. go j l }
   where
-    go : (j : ℕ) → j < d .depth → Child m (getD ws′ j 0) (getD ws′ (suc j) 0)
+    go : (j : ℕ) → j < n → Child m (getD ws′ j 0) (getD ws′ (suc j) 0)
     go j l = elim (case-lt j i) [
       | inl z ↦ rw (P .stays j (omega (arith, z .0)), P .stays (suc j) (omega (arith, z .0))) (D .steps j (z .0))
       | inr z ↦ P .steps j (z .0) l
@@ -151,23 +151,40 @@ module _ (m : List ℕ) (root r f : ℕ) (ws : List ℕ) (w : Way) (k : (t : Tre
     pub mark-within : Within m seat
     mark-within = within (M .beside .stands)
 
-    pub mark-descendable : Descendable m seat (w .below) (set ws (w .mark) seat) (w .mark)
+    -- it is noted in the place of its sibling
+    mark-here : getD (set ws (w .mark) seat) (w .mark) 0 ≡ seat
+    mark-here = getD-set-same ws (w .mark) seat 0 (mark-low .0)
+
+    pub mark-descendable : Descendable m (getD (set ws (w .mark) seat) (w .mark) 0) (w .below) (set ws (w .mark) seat) (w .mark)
     mark-descendable =
         record {
           tree = M .tree;
-          stands = M .beside .stands;
-          place = T .under h .is;
+          stands = rw mark-here (M .beside .stands);
+          place = rw mark-here (T .under h .is);
           low = omega (arith, T .under h .room, tall (M .beside .stands));
           long = omega (arith, T .long, length-set ws (w .mark) seat);
-          here = getD-set-same ws (w .mark) seat 0 (mark-low .0);
+          here = refl;
         }
 
-    pub reaches-mark : (ws′ : List ℕ) (d : Descent) → ((x : Tree) → Stands m seat x → Descended m f x d) → Prolonged m (w .mark) (set ws (w .mark) seat) ws′ d
-        → (y : Node) → y ≡ nodeAt m (d .seat) → Reaches m root (d .depth) ws′ (y .lo) (y .top)
-    reaches-mark ws′ d g P y e =
-        record {
-          down = prolonged-down m root (w .mark) (set ws (w .mark) seat) ws′ d (beside-down m root (w .depth) ws seat (w .mark) (T .down) (M .beside .deep) (T .turn) (omega (arith, mark-right))) P;
-          sub = leaf (y .lo) (y .top);
-          stands = rw (P .last, e) (g (M .tree) (M .beside .stands) .stands);
-          inside = (refl, refl);
-        }
+    pub below-mark : (d : Descent) → ((x : Tree) → Stands m (getD (set ws (w .mark) seat) (w .mark) 0) x → Descended m f x d) → (x : Tree) → Stands m seat x → Descended m f x d
+    below-mark d k x g = k x (rw mark-here g)
+
+    -- what the descent from it comes to, with the way noted on as ws′, n steps down
+    module _ (ws′ : List ℕ) (n : ℕ) (d : Descent) (g : (x : Tree) → Stands m seat x → Descended m f x d) (P : Prolonged m (w .mark) (set ws (w .mark) seat) ws′ n (d .seat)) where
+      pub end-within : Within m (getD ws′ n 0)
+      end-within = rw (P .last) (within (g (M .tree) (M .beside .stands) .stands))
+
+      pub end-low : (n < length ws′) × (n < longestWay)
+      end-low = (P .long, P .short)
+
+      pub end-read : (y : Node) → y ≡ nodeAt m (getD ws′ n 0) → y ≡ nodeAt m (d .seat)
+      end-read y e = rw (P .last) at e
+
+      pub reaches-mark : (y : Node) → y ≡ nodeAt m (getD ws′ n 0) → Reaches m root n ws′ (y .lo) (y .top)
+      reaches-mark y e =
+          record {
+            down = prolonged-down m root (w .mark) (set ws (w .mark) seat) ws′ n (d .seat) (beside-down m root (w .depth) ws seat (w .mark) (T .down) (M .beside .deep) (T .turn) (omega (arith, mark-right))) P;
+            sub = leaf (y .lo) (y .top);
+            stands = rw (P .last, end-read y e) (g (M .tree) (M .beside .stands) .stands);
+            inside = (refl, refl);
+          }

@@ -34,13 +34,14 @@ pub record Descended (m : List ℕ) (f : ℕ) (t : Tree) (d : Descent) : Type 0 
   pub ends : bottom f t ≡ some (nodeAt m (d .seat) .lo) (nodeAt m (d .seat) .top)
   pub counts : d .visits ≡ length (descended f t)
 
--- ws′ is the way ws up to the seat i steps down, and goes down from there to the seat where d ends
-pub record Prolonged (m : List ℕ) (i : ℕ) (ws ws′ : List ℕ) (d : Descent) : Type 0 where
-  pub deep : i ≤ d .depth
-  pub long : d .depth < length ws′
+-- ws′ is the way ws up to the seat i steps down, and goes down from there to the seat s, n steps down
+pub record Prolonged (m : List ℕ) (i : ℕ) (ws ws′ : List ℕ) (n s : ℕ) : Type 0 where
+  pub deep : i ≤ n
+  pub long : n < length ws′
+  pub short : n < longestWay
   pub stays : (j : ℕ) → j ≤ i → getD ws′ j 0 ≡ getD ws j 0
-  pub steps : (j : ℕ) → i ≤ j → j < d .depth → Child m (getD ws′ j 0) (getD ws′ (suc j) 0)
-  pub last : getD ws′ (d .depth) 0 ≡ d .seat
+  pub steps : (j : ℕ) → i ≤ j → j < n → Child m (getD ws′ j 0) (getD ws′ (suc j) 0)
+  pub last : getD ws′ n 0 ≡ s
 
 -- x stands on the left of the node noted j steps down
 pub record Beside (m ws : List ℕ) (j : ℕ) (x : Tree) : Type 0 where

@@ -3,7 +3,7 @@
 ghost use mathlib.Core.Path.{_≡_};
 ghost use mathlib.Core.Bool.{true, false};
 ghost use Prim.Native.Nat.{_*_, _≤_};
-ghost use lib.ListN.{length};
+ghost use lib.ListN.{length, getD};
 ghost use Rattle.numbers.specs.Case.{pick};
 ghost use Rattle.rule.specs.Key.{perTick};
 ghost use Rattle.rule.specs.Moments.{lastMoment};
@@ -14,11 +14,10 @@ ghost use Rattle.node.specs.Paths.{longestWay};
 ghost use Rattle.search.specs.Trails.{Followable, Begun, Follows, FollowsOn, Ahead};
 ghost use Rattle.search.specs.Search.{Descendable, Searchable, Descended, Prolonged, Walked, Trodden, foundOf, Notes};
 
-// The seat of the leaf where a descent ends, the visits on the way to it, and how far down it is.
+// The seat of the leaf where a descent ends, and the visits on the way to it.
 pub struct Descent {
     pub seat: usize,
     pub visits: u64,
-    pub depth: usize,
 }
 
 // A way of keys, on its way down: the place reached, how far down that is, and the least key that it turned left at.
@@ -70,17 +69,6 @@ fn step_mark(passed: bool, late: bool, depth: usize, mark: usize) -> usize
     }
 }
 
-// The place of the marked node's children, after such a step: `place`, or as before.
-fn step_place(passed: bool, late: bool, place: u64, below: u64) -> u64
-    ensures { λ q. ⌜ q ≡ pick passed (pick late place below) below ⌝ }
-{
-    if passed {
-        if late { place } else { below }
-    } else {
-        below
-    }
-}
-
 // Of two numbers, the one for a turn to the right, or the one for a turn to the left.
 fn by_turn(right: bool, y: u64, x: u64) -> u64
     ensures { λ q. ⌜ q ≡ pick right y x ⌝ }
@@ -88,29 +76,43 @@ fn by_turn(right: bool, y: u64, x: u64) -> u64
     if right { y } else { x }
 }
 
-// From the node at seat s, whose children's place is given (0 for a leaf), down to the last leaf that ends at f or later:
-// right if the right child has such an end, else left. The way, which has s `depth` steps down, is noted on to the leaf.
-pub fn descend(mem: &[u8], s: usize, place: u64, f: u64, way: &mut [u16], depth: usize) -> Descent
-    requires { ⌜ Descendable (now mem) s place (now way) depth ⌝ }
-    ensures { λ d. ⌜ ((t : Tree) → Stands (now (mem .entry)) s t → Descended (now (mem .entry)) f t d) × Prolonged (now (mem .entry)) depth (now (way .entry)) (now (way .exit)) d ⌝ }
+// From the node noted `depth` steps down, whose children's place is given (0 for a leaf), down to the last leaf that ends at f or later:
+// right if the right child has such an end, else left. The way is noted on to the leaf; how far down that is goes to `noted` at once,
+// so that nobody waits for what is returned call by call. The left child is loaded after the note, so that neither place waits for the
+// choice between them (docs/DECISIONS.md).
+pub fn descend(
+    mem: &[u8],
+    place: u64,
+    f: u64,
+    way: &mut [u16],
+    depth: usize,
+    noted: &mut usize,
+) -> Descent
+    requires { ⌜ Descendable (now mem) (getD (now way) depth 0) place (now way) depth ⌝ }
+    ensures { λ d. ⌜ ((t : Tree) → Stands (now (mem .entry)) (getD (now (way .entry)) depth 0) t → Descended (now (mem .entry)) f t d) × Prolonged (now (mem .entry)) depth (now (way .entry)) (now (way .exit)) (now (noted .exit)) (d .seat) ⌝ }
 {
     if place == 0 {
+        *noted = depth;
         return Descent {
-            seat: s,
+            seat: way[depth] as usize,
             visits: 0,
-            depth,
         };
     }
     let y = node::load(mem, node::far(true, place));
-    let x = node::load(mem, node::near(true, place));
     let late = f <= y.top;
-    let at = node::near(!late, place);
-    way[depth + 1] = at as u16;
-    let d = descend(mem, at, by_turn(late, y.place, x.place), f, way, depth + 1);
+    way[depth + 1] = node::near(!late, place) as u16;
+    let x = node::load(mem, node::near(true, place));
+    let d = descend(
+        &mem[0..],
+        by_turn(late, y.place, x.place),
+        f,
+        way,
+        depth + 1,
+        noted,
+    );
     Descent {
         seat: d.seat,
         visits: d.visits + step_visits(!late),
-        depth: d.depth,
     }
 }
 
@@ -123,11 +125,12 @@ fn begin(root: usize, place: u64, far: &mut [u16]) -> Trail
     Trail {
         place,
         deep: 0,
-        after: 18446744073709551615,
+        after: u64::MAX,
     }
 }
 
-// A step down of the second way, if it is not at a leaf: right if the least key there is at or before `behind`.
+// A step down of the second way, if it is not at a leaf: right if the least key there is at or before `behind`. The left
+// child is loaded after the note, as in `descend`.
 fn follow(mem: &[u8], behind: u64, far: &mut [u16], t: Trail) -> Trail
     requires { ⌜ Followable (now mem) (now far) t ⌝ }
     ensures { λ u. ⌜ Follows (now (mem .entry)) behind t u (now (far .entry)) (now (far .exit)) ⌝ }
@@ -136,10 +139,10 @@ fn follow(mem: &[u8], behind: u64, far: &mut [u16], t: Trail) -> Trail
         return t;
     }
     let v = node::load(mem, node::far(true, t.place));
-    let u = node::load(mem, node::near(true, t.place));
     let turn = v.lo <= behind;
     let deep = t.deep + 1;
     far[deep] = node::near(!turn, t.place) as u16;
+    let u = node::load(mem, node::near(true, t.place));
     Trail {
         place: by_turn(turn, v.place, u.place),
         deep,
@@ -183,7 +186,7 @@ fn walk(mem: &[u8], root: usize, r: u64, f: u64, way: &mut [u16], far: &mut [u16
         let late = f <= x.top;
         depth += 1;
         mark = step_mark(right, late, depth, mark);
-        below = step_place(right, late, x.place, below);
+        below = by_turn(right, by_turn(late, x.place, below), below);
         visits += step_visits(right);
         way[depth] = node::near(!right, place) as u16;
         place = by_turn(right, y.place, x.place);
@@ -246,9 +249,10 @@ pub fn search(mem: &[u8], root: usize, r: u64, f: u64, way: &mut [u16], far: &mu
     if mark != 0 {
         let seat = way[mark] as usize - 1;
         way[mark] = seat as u16;
-        let d = descend(mem, seat, w.below, f, way, mark);
-        let b = node::load(mem, d.seat);
-        return found_at(b, w.visits + d.visits, d.depth, w);
+        let mut noted = mark;
+        let d = descend(mem, w.below, f, way, mark, &mut noted);
+        let b = node::load(mem, way[noted] as usize);
+        return found_at(b, w.visits + d.visits, noted, w);
     }
     found_none(w)
 }

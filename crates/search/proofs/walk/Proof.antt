@@ -5,6 +5,7 @@ use native.Mathlib.Omega.{arith}
 use lib.Dec.{leb, ltb}
 use lib.ListN.{length, getD, length-set}
 use lib.Seq.{getD-set-same}
+use Rattle.numbers.specs.Case.{pick}
 use Rattle.rule.specs.Key.{perTick}
 use Rattle.shape.specs.Tree.{Tree}
 use Rattle.node.specs.declared.Node.{Node}
@@ -75,7 +76,7 @@ load-requires-3 : tie.Need-load-requires-3 Inv-loop μ-loop
 load-requires-3 c κs = child-within true (c .before .before .before .before .loop .inv .0) (c .before .before .before .loop-test .taken) _ (c .near .ensures) _ (c .before .before .before .before .loop .inv .1 _ (c .before .before .before .before .before .before .before .before .before .before .before .before .before .pre .0 .1) .reached)
 
 near-requires-2 : tie.Need-near-requires-2 Inv-loop μ-loop
-near-requires-2 c κs = omega (arith, small-here (c .before .before .before .before .before .before .before .before .before .before .loop .inv .0) _ (c .before .before .before .before .before .before .before .before .before .before .loop .inv .1 _ (c .before .before .before .before .before .before .before .before .before .before .before .before .before .before .before .before .before .before .before .pre .0 .1) .reached))
+near-requires-2 c κs = omega (arith, small-here (c .before .before .before .before .before .before .before .before .before .before .before .loop .inv .0) _ (c .before .before .before .before .before .before .before .before .before .before .before .loop .inv .1 _ (c .before .before .before .before .before .before .before .before .before .before .before .before .before .before .before .before .before .before .before .before .pre .0 .1) .reached))
 
 add-depth : tie.Need-add-depth Inv-loop μ-loop
 add-depth c = omega (arith, deeper _ _ _ _ _ _ _ (c .before .before .before .before .before .before .before .loop .inv .2) _ (c .before .before .before .before .before .before .before .loop .inv .0) (c .before .before .before .before .before .before .loop-test .taken) _ (c .before .before .before .before .before .before .before .loop .inv .1 _ (c .before .before .before .before .before .before .before .before .before .before .before .before .before .before .before .before .pre .0 .1) .reached) .1)
@@ -83,54 +84,57 @@ add-depth c = omega (arith, deeper _ _ _ _ _ _ _ (c .before .before .before .bef
 step-mark-requires : tie.Need-step-mark-requires Inv-loop μ-loop
 step-mark-requires c κs = tt
 
-step-place-requires : tie.Need-step-place-requires Inv-loop μ-loop
-step-place-requires c κs = tt
+by-turn-requires : tie.Need-by-turn-requires Inv-loop μ-loop
+by-turn-requires c κs = tt
+
+by-turn-requires-2 : tie.Need-by-turn-requires-2 Inv-loop μ-loop
+by-turn-requires-2 c κs = tt
 
 step-visits-requires : tie.Need-step-visits-requires Inv-loop μ-loop
 step-visits-requires c κs = tt
 
 add-visits : tie.Need-add-visits Inv-loop μ-loop
-add-visits c = omega (arith, on-few _ _ _ _ _ _ _ _ (c .before .before .before .before .before .before .before .before .before .before .loop .inv .1 _ (c .before .before .before .before .before .before .before .before .before .before .before .before .before .before .before .before .before .before .before .pre .0 .1)) (c .before .before .before .before .before .before .before .before .before .before .before .before .before .before .before .before .before .before .before .pre .0 .2), c .step-visits .ensures .1)
+add-visits c = omega (arith, on-few _ _ _ _ _ _ _ _ (c .before .before .before .before .before .before .before .before .before .before .before .loop .inv .1 _ (c .before .before .before .before .before .before .before .before .before .before .before .before .before .before .before .before .before .before .before .before .pre .0 .1)) (c .before .before .before .before .before .before .before .before .before .before .before .before .before .before .before .before .before .before .before .before .pre .0 .2), c .step-visits .ensures .1)
 
 cast-way-2 : tie.Need-cast-way-2 Inv-loop μ-loop
-cast-way-2 c = omega (arith, child-within (not (ltb (c .before .before .before .before .before .before .before .before .load2 .result .lo) ((c .before .before .before .before .before .before .before .before .before .before .before .before .before .before .before .before .before .before .before .before .args .r + 1) * perTick))) (c .before .before .before .before .before .before .before .before .before .before .before .loop .inv .0) (c .before .before .before .before .before .before .before .before .before .before .loop-test .taken) _ (c .near2 .ensures) _ (c .before .before .before .before .before .before .before .before .before .before .before .loop .inv .1 _ (c .before .before .before .before .before .before .before .before .before .before .before .before .before .before .before .before .before .before .before .before .pre .0 .1) .reached))
+cast-way-2 c = omega (arith, child-within (not (ltb (c .before .before .before .before .before .before .before .before .before .load2 .result .lo) ((c .before .before .before .before .before .before .before .before .before .before .before .before .before .before .before .before .before .before .before .before .before .args .r + 1) * perTick))) (c .before .before .before .before .before .before .before .before .before .before .before .before .loop .inv .0) (c .before .before .before .before .before .before .before .before .before .before .before .loop-test .taken) _ (c .near2 .ensures) _ (c .before .before .before .before .before .before .before .before .before .before .before .before .loop .inv .1 _ (c .before .before .before .before .before .before .before .before .before .before .before .before .before .before .before .before .before .before .before .before .before .pre .0 .1) .reached))
 
 mul-way : tie.Need-mul-way Inv-loop μ-loop
-mul-way c = omega (arith, deeper _ _ _ _ _ _ _ (c .before .before .before .before .before .before .before .before .before .before .before .loop .inv .2) _ (c .before .before .before .before .before .before .before .before .before .before .before .loop .inv .0) (c .before .before .before .before .before .before .before .before .before .before .loop-test .taken) _ (c .before .before .before .before .before .before .before .before .before .before .before .loop .inv .1 _ (c .before .before .before .before .before .before .before .before .before .before .before .before .before .before .before .before .before .before .before .before .pre .0 .1) .reached) .1)
+mul-way c = omega (arith, deeper _ _ _ _ _ _ _ (c .before .before .before .before .before .before .before .before .before .before .before .before .loop .inv .2) _ (c .before .before .before .before .before .before .before .before .before .before .before .before .loop .inv .0) (c .before .before .before .before .before .before .before .before .before .before .before .loop-test .taken) _ (c .before .before .before .before .before .before .before .before .before .before .before .before .loop .inv .1 _ (c .before .before .before .before .before .before .before .before .before .before .before .before .before .before .before .before .before .before .before .before .before .pre .0 .1) .reached) .1)
 
 slice-write-way-2 : tie.Need-slice-write-way-2 Inv-loop μ-loop
-slice-write-way-2 c = deeper _ _ _ _ _ _ _ (c .before .before .before .before .before .before .before .before .before .before .before .loop .inv .2) _ (c .before .before .before .before .before .before .before .before .before .before .before .loop .inv .0) (c .before .before .before .before .before .before .before .before .before .before .loop-test .taken) _ (c .before .before .before .before .before .before .before .before .before .before .before .loop .inv .1 _ (c .before .before .before .before .before .before .before .before .before .before .before .before .before .before .before .before .before .before .before .before .pre .0 .1) .reached) .0
+slice-write-way-2 c = deeper _ _ _ _ _ _ _ (c .before .before .before .before .before .before .before .before .before .before .before .before .loop .inv .2) _ (c .before .before .before .before .before .before .before .before .before .before .before .before .loop .inv .0) (c .before .before .before .before .before .before .before .before .before .before .before .loop-test .taken) _ (c .before .before .before .before .before .before .before .before .before .before .before .before .loop .inv .1 _ (c .before .before .before .before .before .before .before .before .before .before .before .before .before .before .before .before .before .before .before .before .before .pre .0 .1) .reached) .0
 
-by-turn-requires : tie.Need-by-turn-requires Inv-loop μ-loop
-by-turn-requires c κs = tt
+by-turn-requires-3 : tie.Need-by-turn-requires-3 Inv-loop μ-loop
+by-turn-requires-3 c κs = tt
 
 follow-requires : tie.Need-follow-requires Inv-loop μ-loop
-follow-requires c κs = c .before .before .before .before .before .before .before .before .before .before .before .before .before .loop .inv .3
+follow-requires c κs = c .before .before .before .before .before .before .before .before .before .before .before .before .before .before .loop .inv .3
 
 loop-less : tie.Need-loop-less Inv-loop μ-loop
 loop-less c =
-    let lower = child-lower (not (ltb (c .before .before .before .before .before .before .before .before .before .before .before .before .before .load2 .result .lo) ((c .before .before .before .before .before .before .before .before .before .before .before .before .before .before .before .before .before .before .before .before .before .before .before .before .before .args .r + 1) * perTick))) (c .before .before .before .before .before .before .before .before .before .before .before .before .before .before .before .before .loop .inv .0) (c .before .before .before .before .before .before .before .before .before .before .before .before .before .before .before .loop-test .taken) _ (c .before .before .before .before .before .near2 .ensures) _ (c .before .before .before .before .before .before .before .before .before .before .before .before .before .before .before .before .loop .inv .1 _ (c .before .before .before .before .before .before .before .before .before .before .before .before .before .before .before .before .before .before .before .before .before .before .before .before .before .pre .0 .1) .reached) in
-    let deep = deeper _ _ _ _ _ _ _ (c .before .before .before .before .before .before .before .before .before .before .before .before .before .before .before .before .loop .inv .2) _ (c .before .before .before .before .before .before .before .before .before .before .before .before .before .before .before .before .loop .inv .0) (c .before .before .before .before .before .before .before .before .before .before .before .before .before .before .before .loop-test .taken) _ (c .before .before .before .before .before .before .before .before .before .before .before .before .before .before .before .before .loop .inv .1 _ (c .before .before .before .before .before .before .before .before .before .before .before .before .before .before .before .before .before .before .before .before .before .before .before .before .before .pre .0 .1) .reached) in
-    omega (arith, lower, ap (λ (x : ℕ). nodeAt (c .before .before .before .before .before .before .before .before .before .before .before .before .before .before .before .before .before .before .before .before .before .before .before .before .before .args .mem .now) x .height) (getD-set-same (c .before .before .before .before .before .before .before .before .before .before .before .before .before .before .before .before .loop .way) (c .before .before .before .before .before .before .before .before .before .before .before .before .before .before .before .before .loop .depth + 1) (c .before .before .before .before .before .near2 .result) 0 (deep .0)))
+    let lower = child-lower (not (ltb (c .before .before .before .before .before .before .before .before .before .before .before .before .before .before .load2 .result .lo) ((c .before .before .before .before .before .before .before .before .before .before .before .before .before .before .before .before .before .before .before .before .before .before .before .before .before .before .args .r + 1) * perTick))) (c .before .before .before .before .before .before .before .before .before .before .before .before .before .before .before .before .before .loop .inv .0) (c .before .before .before .before .before .before .before .before .before .before .before .before .before .before .before .before .loop-test .taken) _ (c .before .before .before .before .before .near2 .ensures) _ (c .before .before .before .before .before .before .before .before .before .before .before .before .before .before .before .before .before .loop .inv .1 _ (c .before .before .before .before .before .before .before .before .before .before .before .before .before .before .before .before .before .before .before .before .before .before .before .before .before .before .pre .0 .1) .reached) in
+    let deep = deeper _ _ _ _ _ _ _ (c .before .before .before .before .before .before .before .before .before .before .before .before .before .before .before .before .before .loop .inv .2) _ (c .before .before .before .before .before .before .before .before .before .before .before .before .before .before .before .before .before .loop .inv .0) (c .before .before .before .before .before .before .before .before .before .before .before .before .before .before .before .before .loop-test .taken) _ (c .before .before .before .before .before .before .before .before .before .before .before .before .before .before .before .before .before .loop .inv .1 _ (c .before .before .before .before .before .before .before .before .before .before .before .before .before .before .before .before .before .before .before .before .before .before .before .before .before .before .pre .0 .1) .reached) in
+    omega (arith, lower, ap (λ (x : ℕ). nodeAt (c .before .before .before .before .before .before .before .before .before .before .before .before .before .before .before .before .before .before .before .before .before .before .before .before .before .before .args .mem .now) x .height) (getD-set-same (c .before .before .before .before .before .before .before .before .before .before .before .before .before .before .before .before .before .loop .way) (c .before .before .before .before .before .before .before .before .before .before .before .before .before .before .before .before .before .loop .depth + 1) (c .before .before .before .before .before .near2 .result) 0 (deep .0)))
 
 loop-again : tie.Need-loop-again Inv-loop μ-loop
 loop-again c =
-    let l = c .before .before .before .before .before .before .before .before .before .before .before .before .before .before .before .before .loop in
+    let l = c .before .before .before .before .before .before .before .before .before .before .before .before .before .before .before .before .before .loop in
     let F = c .before .before .follow .ensures in
     let T = l .inv .2 in
     let e = l .inv .0 in
-    let h = (c .before .before .before .before .before .before .before .before .before .before .before .before .before .before .before .loop-test .taken) in
-    let right = (ltb (c .before .before .before .before .before .before .before .before .before .before .before .before .before .load2 .result .lo) ((c .before .before .before .before .before .before .before .before .before .before .before .before .before .before .before .before .before .before .before .before .before .before .before .before .before .args .r + 1) * perTick)) in
-    let late = leb (c .before .before .before .before .before .before .before .before .before .before .before .before .before .before .before .before .before .before .before .before .before .before .before .before .before .args .f) (c .before .before .before .before .before .before .before .before .before .before .before .load3 .result .top) in
-    let s = l .inv .1 _ (c .before .before .before .before .before .before .before .before .before .before .before .before .before .before .before .before .before .before .before .before .before .before .before .before .before .pre .0 .1) .reached in
-    let y = c .before .before .before .before .before .before .before .before .before .before .before .before .before .load2 .ensures in
-    let z = c .before .before .before .before .before .before .before .before .before .before .before .load3 .ensures in
+    let h = (c .before .before .before .before .before .before .before .before .before .before .before .before .before .before .before .before .loop-test .taken) in
+    let right = (ltb (c .before .before .before .before .before .before .before .before .before .before .before .before .before .before .load2 .result .lo) ((c .before .before .before .before .before .before .before .before .before .before .before .before .before .before .before .before .before .before .before .before .before .before .before .before .before .before .args .r + 1) * perTick)) in
+    let late = leb (c .before .before .before .before .before .before .before .before .before .before .before .before .before .before .before .before .before .before .before .before .before .before .before .before .before .before .args .f) (c .before .before .before .before .before .before .before .before .before .before .before .before .load3 .result .top) in
+    let s = l .inv .1 _ (c .before .before .before .before .before .before .before .before .before .before .before .before .before .before .before .before .before .before .before .before .before .before .before .before .before .before .pre .0 .1) .reached in
+    let y = c .before .before .before .before .before .before .before .before .before .before .before .before .before .before .load2 .ensures in
+    let z = c .before .before .before .before .before .before .before .before .before .before .before .before .load3 .ensures in
     let x = c .before .before .before .before .before .near2 .ensures in
-    let i = c .before .before .before .before .before .before .before .before .step-mark .ensures in
+    let i = c .before .before .before .before .before .before .before .before .before .step-mark .ensures in
     let deep = deeper _ _ _ _ _ _ _ T _ e h _ s .0 in (
-      noted-place _ (l .way) (l .depth) _ _ deep (place-next _ (l .place) right _ (c .before .before .before .before .before .before .before .before .before .before .before .before .before .before .far2 .ensures) _ y _ (c .before .before .before .before .before .before .before .before .before .before .before .before .near .ensures) _ z _ x _ (c .before .before .before .before .by-turn .ensures)),
-      (λ t g. on-next _ _ _ t _ _ _ _ (l .inv .1 t g) _ e h deep (T .turn) _ (c .before .before .before .before .before .before .before .before .before .before .before .before .before .before .far2 .ensures) _ y _ (c .before .before .before .before .before .before .before .before .before .before .before .before .near .ensures) _ z _ x _ i _ (c .before .before .before .before .before .before .step-visits .ensures .0)),
-      treading-next _ _ _ _ _ _ _ T _ e h _ s _ (c .before .before .before .before .before .before .before .before .before .before .before .before .near .ensures) _ z _ right late x _ i _ (c .before .before .before .before .before .before .before .step-place .ensures),
+      noted-place _ (l .way) (l .depth) _ _ deep (place-next _ (l .place) right _ (c .before .before .before .before .before .before .before .before .before .before .before .before .before .before .before .far2 .ensures) _ y _ (c .before .before .before .before .before .before .before .before .before .before .before .before .before .near .ensures) _ z _ x _ (c .before .before .before .before .by-turn3 .ensures)),
+      (λ t g. on-next _ _ _ t _ _ _ _ (l .inv .1 t g) _ e h deep (T .turn) _ (c .before .before .before .before .before .before .before .before .before .before .before .before .before .before .before .far2 .ensures) _ y _ (c .before .before .before .before .before .before .before .before .before .before .before .before .before .near .ensures) _ z _ x _ i _ (c .before .before .before .before .before .before .step-visits .ensures .0)),
+      treading-next _ _ _ _ _ _ _ T _ e h _ s _ (c .before .before .before .before .before .before .before .before .before .before .before .before .before .near .ensures) _ z _ right late x _ i _ (c .before .before .before .before .before .before .before .by-turn2 .ensures ∙ ap (λ (q : ℕ). pick right q (l .below)) (c .before .before .before .before .before .before .before .before .by-turn .ensures)),
       F .able,
       (λ tr a b g o n. F .trails _ (l .inv .4 tr a b g o n)),
       c .before .before .follow .kept .1 .1 .0 ∙ l .inv .5,
@@ -175,14 +179,15 @@ walk-spec =
     load-requires-3
     add-depth
     step-mark-requires
-    step-place-requires
+    by-turn-requires
+    by-turn-requires-2
     step-visits-requires
     add-visits
     near-requires-2
     cast-way-2
     mul-way
     slice-write-way-2
-    by-turn-requires
+    by-turn-requires-3
     follow-requires
     loop-less
     loop-again
