@@ -1,12 +1,12 @@
 -- The header of a link in lent memory: 28 words (docs/ARCHITECTURE.md), and the bytes that a room needs.
 use mathlib.Core.Path.{_≡_}
 use mathlib.Core.List.{List, [], _∷_}
-use Prim.Native.Nat.{ℕ, zero, suc, _<_}
+use Prim.Native.Nat.{ℕ, zero, suc, _+_, _<_}
 use lib.ListN.{length, getD}
 use Rattle.numbers.specs.Words.{word}
 use Rattle.shape.specs.Tree.{size}
 use Rattle.node.specs.Layout.{headerWords, bytesFor}
-use Rattle.state.specs.State.{State, first, places}
+use Rattle.state.specs.State.{State, first}
 
 -- n numbers: those of the list, then zeros
 abbrev pub padded : (n : ℕ) → List ℕ → List ℕ
@@ -33,4 +33,4 @@ Heads m h = (j : ℕ) → j < headerWords → word m j ≡ getD h j 0
 
 -- "The exact need is a formula in the room": 64 * room + 256 bytes, two seats for each place
 abbrev pub need : (room : ℕ) → ℕ
-need room = bytesFor (places room)
+need room = bytesFor (room + 1)
