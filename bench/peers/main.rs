@@ -31,6 +31,13 @@ fn play_one(stream: &Stream, contender: Contender) {
     println!("{} bookings, refused under 7: {}, under 8: {}", stream.bookings(), refused(7), refused(8));
 }
 
+/// One stream with one contender so many times: the least and the median of ns an order. To hold two builds of the core against each other.
+fn again(stream: &Stream, contender: Contender, times: usize) {
+    let mut ns: Vec<f64> = (0..times).map(|_| play::play(contender, stream).ns_an_order).collect();
+    ns.sort_by(f64::total_cmp);
+    println!("{:.1} {:.1}", ns[0], ns[ns.len() / 2]);
+}
+
 /// One letter for each order of a stream: booked, refused or swept.
 fn kinds(stream: &Stream) {
     let played = play::play(Contender::Core, stream);
@@ -46,18 +53,20 @@ fn main() {
     let arguments: Vec<String> = std::env::args().skip(1).collect();
     let words: Vec<&str> = arguments.iter().map(String::as_str).collect();
     let stream = |name| stream::named(name).expect("a stream: RANGE-LOAD or walk-back");
+    let contender = |name| Contender::named(name).expect("core, scan, map, tree, horizon, array, link or one of play::FORMS");
     match words[..] {
         [] => {
             tables::all();
             single::all();
             growth::all();
         }
-        ["play", name, contender] => play_one(&stream(name), Contender::named(contender).expect("core, scan, map, tree, horizon, array, link or one of play::FORMS")),
+        ["play", name, who] => play_one(&stream(name), contender(who)),
+        ["again", name, who, times] => again(&stream(name), contender(who), times.parse().expect("a number of times")),
         ["forms", name, rounds] => tables::forms(&stream(name), rounds.parse().expect("a number of rounds")),
         ["streams"] => println!("{}", stream::NAMES.join("\n")),
         ["kinds", name] => kinds(&stream(name)),
         _ => {
-            eprintln!("bench-peers [play STREAM CONTENDER | forms STREAM ROUNDS | streams | kinds STREAM]");
+            eprintln!("bench-peers [play STREAM CONTENDER | again STREAM CONTENDER TIMES | forms STREAM ROUNDS | streams | kinds STREAM]");
             std::process::exit(2);
         }
     }
