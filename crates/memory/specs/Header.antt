@@ -31,6 +31,6 @@ header s =
 abbrev pub Heads : List ℕ → List ℕ → Type 0
 Heads m h = (j : ℕ) → j < headerWords → word m j ≡ getD h j 0
 
--- "The exact need is a formula in the room": 64 * room + 256 bytes, two seats for each place
+-- "The exact need is a formula in the room": 64 * room + 256 bytes, for its room + 1 places (state's `places`)
 abbrev pub need : (room : ℕ) → ℕ
 need room = bytesFor (room + 1)

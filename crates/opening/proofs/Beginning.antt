@@ -22,6 +22,7 @@ use Rattle.node.proofs.Reps.{leaf-stands}
 use Rattle.state.specs.State.{first, places}
 use Rattle.state.specs.Sound.{among, below}
 use Rattle.state.specs.Open.{upFrom, single}
+use Rattle.state.specs.OpenLaws.{length-up}
 use Rattle.memory.specs.Header.{padded, Heads, need}
 use Rattle.memory.specs.Holds.{Spares, Gives, Past, After}
 use Rattle.memory.specs.Part.{Part}
@@ -99,10 +100,6 @@ module _ (m m1 m2 m3 m4 m5 m6 m7 m8 m9 : List ℕ) (ds : List ℕ) (room lines l
       rw (← el) (draft-put _ m m8 m9 7 0 (omega arith) (omega arith) e9 d8)
 
 -- ---- the spare places
-pub length-up : (p n : ℕ) → length (upFrom p n) ≡ n
-length-up p zero = refl
-length-up p (suc n) = ap suc (length-up (p + 1) n)
-
 among-before : (p n z : ℕ) → z < p → among z (upFrom p n) ≡ 0
 among-before p zero z h = refl
 among-before p (suc n) z h = omega (arith, same-other z p (omega arith), among-before (p + 1) n z (omega arith))

@@ -21,13 +21,13 @@ use Rattle.state.specs.State.{State, first, rest, add}
 use Rattle.state.specs.Sound.{among, below}
 use Rattle.state.specs.Places.{Placed}
 use Rattle.state.specs.Open.{upFrom, with-channels, widen, single, widened, fewer, fresh}
+use Rattle.state.specs.OpenLaws.{length-up}
 use Rattle.memory.specs.Header.{need}
 use Rattle.memory.specs.Holds.{Past, After}
 use Rattle.memory.specs.Steps.{Link, Roomy, Adds}
 use Rattle.memory.proofs.Parts.{first-and-rest, below-is, below-out, past-none, past-then, part-put, opened, closed}
 use Rattle.shape.specs.SizeLaws.{size-insert}
 use Rattle.opening.specs.Stages.{Begun}
-use Rattle.opening.proofs.Beginning.{length-up}
 
 -- ---- the places from 1 on
 below-next : (z p : ℕ) → below z (p + 1) ≡ below z p + same z p

@@ -24,7 +24,11 @@ use Rattle.search.specs.declared.Descent.{Descent}
 use Rattle.search.specs.Search.{Descendable, Descended, Prolonged}
 use Rattle.search.proofs.Look.{leaf-here, inner-here, small-here, high-here, top-here, child-within, child-lower, place-next}
 
-module _ (m : List ℕ) (s q f : ℕ) (ws : List ℕ) (i : ℕ) (D : Descendable m s q ws i) where
+module _ (m : List ℕ) (q f : ℕ) (ws : List ℕ) (i : ℕ) (D : Descendable m q ws i) where
+  -- the seat noted last
+  abbrev s : ℕ
+  s = getD ws i 0
+
   pub low-place : q < 65536
   low-place = small-here (D .place) (D .tree) (D .stands)
 
@@ -36,7 +40,7 @@ module _ (m : List ℕ) (s q f : ℕ) (ws : List ℕ) (i : ℕ) (D : Descendable
       × Prolonged m i ws ws i s
   ends-here h = (
     (λ t g. let l = leaf-here (D .place) h t g in rw l (record { stands = rw l at g; ends = refl; counts = refl })),
-    record { deep = omega arith; long = omega (arith, D .low, D .long); short = omega (arith, D .low); stays = λ j l. refl; steps = λ j l u. absurd (omega arith); last = D .here },
+    record { deep = omega arith; long = omega (arith, D .low, D .long); short = omega (arith, D .low); stays = λ j l. refl; steps = λ j l u. absurd (omega arith); last = refl },
   )
 
   module _ (h : q ≡ 0 → ⊥) where
@@ -57,7 +61,7 @@ module _ (m : List ℕ) (s q f : ℕ) (ws : List ℕ) (i : ℕ) (D : Descendable
 
       -- y and x are the nodes on the right and on the left
       pub at-descendable : (p : ℕ) → p ≡ nearSeat false q → (y : Node) → y ≡ nodeAt m p → (l : ℕ) → l ≡ nearSeat true q → (x : Node) → x ≡ nodeAt m l
-          → (z : ℕ) → z ≡ pick b (y .place) (x .place) → Descendable m (getD (set ws (i + 1) at) (i + 1) 0) z (set ws (i + 1) at) (i + 1)
+          → (z : ℕ) → z ≡ pick b (y .place) (x .place) → Descendable m z (set ws (i + 1) at) (i + 1)
       at-descendable p ep y ey l el x ex z ez =
           let c = inner-here (D .place) h (D .tree) (D .stands) in
           record {
@@ -66,7 +70,6 @@ module _ (m : List ℕ) (s q f : ℕ) (ws : List ℕ) (i : ℕ) (D : Descendable
             place = rw (at-here at) (place-next m q b p ep y ey l el x ex at ea z ez);
             low = omega (arith, c .lower (not b), D .low);
             long = omega (arith, D .long, length-set ws (i + 1) at);
-            here = refl;
           }
 
     -- y is the node on the right, and the descent goes on at the seat `at`
@@ -103,7 +106,7 @@ module _ (m : List ℕ) (s q f : ℕ) (ws : List ℕ) (i : ℕ) (D : Descendable
             }
           where
             here : getD ws′ i 0 ≡ s
-            here = P .stays i (omega arith) ∙ noted ws i at i (omega arith) ∙ D .here
+            here = P .stays i (omega arith) ∙ noted ws i at i (omega arith)
 
             there : getD ws′ (suc i) 0 ≡ at
             there = P .stays (suc i) (omega arith) ∙ noted-here ws i at (room .0)

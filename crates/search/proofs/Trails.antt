@@ -45,7 +45,6 @@ module _ (m : List ℕ) (root q : ℕ) (e : q ≡ nodeAt m root .place) (way : L
         place = rw at-root e;
         low = omega (arith, S .2);
         long = omega (arith, long, length-set ws 0 root);
-        here = refl;
       })
 
   pub begun-trailed : (b : ℕ) → Trailed m root b ws′ t
@@ -86,7 +85,7 @@ module _ (m : List ℕ) (b : ℕ) (ws : List ℕ) (t : Trail) (D : Followable m 
     leads-to k s c e = record { inner = high-here (D .place) h (D .tree) (D .stands); to = rw (← D .place, c) e }
 
     deep : t .deep + 1 < length ws
-    deep = room _ _ _ 0 _ _ D h .0
+    deep = room _ _ 0 _ _ D h .0
 
     module _ (root : ℕ) (T : Trailing m root b ws t) where
       I : Inner m (t .place) (T .here)
@@ -141,8 +140,8 @@ module _ (m : List ℕ) (b : ℕ) (ws : List ℕ) (t : Trail) (D : Followable m 
         → Follows m b t (record { place = z; deep = t .deep + 1; after = a }) ws (set ws (t .deep + 1) x)
     follows-next l el u eu z ez =
         record {
-          able = at-descendable _ _ _ 0 _ _ D h (leb (v .lo) b) x ex p ep v ev l el u eu z ez;
-          lower = λ n. at-lower _ _ _ 0 _ _ D h (leb (v .lo) b) x ex;
+          able = at-descendable _ _ 0 _ _ D h (leb (v .lo) b) x ex p ep v ev l el u eu z ez;
+          lower = λ n. at-lower _ _ 0 _ _ D h (leb (v .lo) b) x ex;
           trails = λ root T. trails-next root T z;
         }
 

@@ -155,7 +155,7 @@ module _ (m : List ℕ) (root r f : ℕ) (ws : List ℕ) (w : Way) (k : (t : Tre
     mark-here : getD (set ws (w .mark) seat) (w .mark) 0 ≡ seat
     mark-here = getD-set-same ws (w .mark) seat 0 (mark-low .0)
 
-    pub mark-descendable : Descendable m (getD (set ws (w .mark) seat) (w .mark) 0) (w .below) (set ws (w .mark) seat) (w .mark)
+    pub mark-descendable : Descendable m (w .below) (set ws (w .mark) seat) (w .mark)
     mark-descendable =
         record {
           tree = M .tree;
@@ -163,7 +163,6 @@ module _ (m : List ℕ) (root r f : ℕ) (ws : List ℕ) (w : Way) (k : (t : Tre
           place = rw mark-here (T .under h .is);
           low = omega (arith, T .under h .room, tall (M .beside .stands));
           long = omega (arith, T .long, length-set ws (w .mark) seat);
-          here = refl;
         }
 
     pub below-mark : (d : Descent) → ((x : Tree) → Stands m (getD (set ws (w .mark) seat) (w .mark) 0) x → Descended m f x d) → (x : Tree) → Stands m seat x → Descended m f x d

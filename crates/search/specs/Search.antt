@@ -19,14 +19,13 @@ use Rattle.search.specs.declared.Found.{Found}
 abbrev pub Searchable : List ℕ → ℕ → (way : List ℕ) → Type 0
 Searchable m s ws = (t : Tree) × Stands m s t × (height t < longestWay) × (longestWay ≤ length ws)
 
--- some tree stands at s, which is noted d steps down, and has the place q; and its ways down fit the rest of the list
-pub record Descendable (m : List ℕ) (s q : ℕ) (ws : List ℕ) (d : ℕ) : Type 0 where
+-- some tree stands at the seat noted d steps down, and has the place q; and its ways down fit the rest of the list
+pub record Descendable (m : List ℕ) (q : ℕ) (ws : List ℕ) (d : ℕ) : Type 0 where
   pub tree : Tree
-  pub stands : Stands m s tree
-  pub place : q ≡ nodeAt m s .place
+  pub stands : Stands m (getD ws d 0) tree
+  pub place : q ≡ nodeAt m (getD ws d 0) .place
   pub low : height tree + d < longestWay
   pub long : longestWay ≤ length ws
-  pub here : getD ws d 0 ≡ s
 
 -- d is where C's way down from t ends, at a leaf, with its visits
 pub record Descended (m : List ℕ) (f : ℕ) (t : Tree) (d : Descent) : Type 0 where

@@ -16,7 +16,7 @@ firstAfter = 18446744073709551615
 
 -- some tree stands at the seat noted last, and its ways down fit the list
 abbrev pub Followable : (m ws : List ℕ) → Trail → Type 0
-Followable m ws t = Descendable m (getD ws (t .deep) 0) (t .place) ws (t .deep)
+Followable m ws t = Descendable m (t .place) ws (t .deep)
 
 -- the seats noted go down from the root as every key from b on and below `after` leads, and the keys below the last of them are lower
 -- than `after`

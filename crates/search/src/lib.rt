@@ -88,7 +88,7 @@ pub fn descend(
     depth: usize,
     noted: &mut usize,
 ) -> Descent
-    requires { ⌜ Descendable (now mem) (getD (now way) depth 0) place (now way) depth ⌝ }
+    requires { ⌜ Descendable (now mem) place (now way) depth ⌝ }
     ensures { λ d. ⌜ ((t : Tree) → Stands (now (mem .entry)) (getD (now (way .entry)) depth 0) t → Descended (now (mem .entry)) f t d) × Prolonged (now (mem .entry)) depth (now (way .entry)) (now (way .exit)) (now (noted .exit)) (d .seat) ⌝ }
 {
     if place == 0 {
@@ -98,13 +98,13 @@ pub fn descend(
             visits: 0,
         };
     }
-    let y = node::load(mem, node::far(true, place));
-    let late = f <= y.top;
+    let right = node::load(mem, node::far(true, place));
+    let late = f <= right.top;
     way[depth + 1] = node::near(!late, place) as u16;
-    let x = node::load(mem, node::near(true, place));
+    let left = node::load(mem, node::near(true, place));
     let d = descend(
         &mem[0..],
-        by_turn(late, y.place, x.place),
+        by_turn(late, right.place, left.place),
         f,
         way,
         depth + 1,

@@ -53,7 +53,7 @@ among-up : (z p n : ℕ) → among z (upFrom p n) + below z p ≡ below z (p + n
 among-up z p zero = let q : p + 0 ≡ p = omega arith in rw q (omega arith)
 among-up z p (suc n) = let q : p + suc n ≡ p + 1 + n = omega arith in rw q (omega (arith, among-up z (p + 1) n, below-next z p))
 
-length-up : (p n : ℕ) → length (upFrom p n) ≡ n
+pub length-up : (p n : ℕ) → length (upFrom p n) ≡ n
 length-up p zero = refl
 length-up p (suc n) = omega (arith, length-up (p + 1) n)
 

@@ -13,7 +13,7 @@ use Rattle.shape.specs.PlaceLaws.{same-self, same-other, same-most}
 use Rattle.shape.specs.ChangeLaws.{weight-insert, weight-remove, weight-set, height-remove}
 use Rattle.shape.specs.HeightLaws.{height-few}
 use Rattle.shape.specs.EvenLaws.{even-insert, even-remove, even-set}
-use Rattle.shape.specs.SizeLaws.{size-insert, size-remove, size-set}
+use Rattle.shape.specs.SizeLaws.{size-insert, size-remove, size-set, tall-node}
 use Rattle.node.specs.Layout.{rootSeat, Within, nodeAt, leafNode, Saved}
 use Rattle.node.specs.Paths.{longestWay}
 use Rattle.node.specs.Rep.{Stands}
@@ -85,12 +85,8 @@ inside (node q l r) m s z a h = elim (ℕ-discrete z q) [
   ]
 ]
 
-high : (t : Tree) → 2 ≤ size t → 1 ≤ height t
-high (leaf k e) h = absurd (omega arith)
-high (node q l r) h = omega arith
-
 pub inner : (m : List ℕ) → Has m voids → 1 ≤ nodeAt m rootSeat .height
-inner m x = omega (arith, tall (x .1 .stands), high (x .0) (omega (arith, x .1 .many)))
+inner m x = omega (arith, tall (x .1 .stands), tall-node (x .0) (omega (arith, x .1 .many)))
 
 module _ (m m′ : List ℕ) (key q : ℕ) (x : Has m voids) (r : Removes rootSeat key q m m′) where
   abbrev t : Tree
@@ -100,7 +96,7 @@ module _ (m m′ : List ℕ) (key q : ℕ) (x : Has m voids) (r : Removes rootSe
   cut = r (x .0) (lone m voids (omega arith) (x .0) (x .1))
 
   gone : (z : ℕ) → uses z t + same z q ≡ uses z (x .0)
-  gone z = omega (arith, ap (same z) (cut .0), weight-remove 0 (same z) key (x .0) (high (x .0) (omega (arith, x .1 .many))))
+  gone z = omega (arith, ap (same z) (cut .0), weight-remove 0 (same z) key (x .0) (tall-node (x .0) (omega (arith, x .1 .many))))
 
   room : Within m (2 * q) × Within m (2 * q + 1)
   room = inside (x .0) m rootSeat q (x .1 .stands) (omega (arith, gone q, same-self q))

@@ -71,9 +71,6 @@ pub both-small : (m : List ℕ) (t w : ℕ) → Both m t w → w < halfWord
 both-small m t w g = let i = within (g .2 .first) in omega (arith, i .2)
 
 -- ---- seats as the code has them, by their equations
-pub read-at : (m : List ℕ) {n : Node} {u v : ℕ} → u ≡ v → n ≡ nodeAt m u → n ≡ nodeAt m v
-read-at m e r = rw e at r
-
 pub copied-at : (m m′ : List ℕ) {u u′ v v′ : ℕ} → u ≡ u′ → v ≡ v′ → Copied u v m m′ → Copied u′ v′ m m′
 copied-at m m′ e e′ o = rw (e, e′) at o
 

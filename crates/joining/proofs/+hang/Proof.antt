@@ -6,7 +6,8 @@ use borrow.Fn.Kinds.{In}
 use borrow.Fn.PlainCycle.{Measures, is, falls, and}
 use Rattle.node.specs.Layout.{nodeAt}
 use Rattle.node.proofs.Seats.{nearSeat}
-use Rattle.turning.proofs.Sides.{both-within, both-small, read-at, copied-at}
+use Rattle.summing.proofs.Sums.{read-at}
+use Rattle.turning.proofs.Sides.{both-within, both-small, copied-at}
 use Rattle.turning.proofs.Balancing.{mendable-both}
 use Rattle.joining.proofs.Hanging.{low-side, hang-here, within-inner, hang-down, hung-both, hang-on, both-at, hangs-at}
 use Rattle.joining.proofs.hang.Reads as hang

@@ -1,7 +1,8 @@
 -- `joining::join`: by the heights read, the higher tree takes the lower (Joining). Assumes nothing.
 use mathlib.Core.Bool.{true}
 use borrow.Author.Needs.{needs}
-use Rattle.turning.proofs.Sides.{both-within, both-small, read-at}
+use Rattle.summing.proofs.Sums.{read-at}
+use Rattle.turning.proofs.Sides.{both-within, both-small}
 use Rattle.joining.proofs.Joining.{joins-left, joins-right}
 use Rattle.joining.proofs.join.Statement.{statement}
 use Rattle.joining.proofs.join.Tie as tie

@@ -49,34 +49,34 @@ descend-cast-t15 : (t : ℕ) → descend-lts.Need-cast-t15 (calls t) (descend-at
 descend-cast-t15 t c = let D = c .before .before .before .before .pre .1 in omega (arith, within (D .stands))
 
 descend-returns : (t : ℕ) → descend-lts.Need-returns (calls t) (descend-at t) descend.Post
-descend-returns t c = ends-here _ _ _ (c .before .before .before .before .args .f) _ _ (c .before .before .before .before .pre .1) (c .before .if1 .taken)
+descend-returns t c = ends-here _ _ (c .before .before .before .before .args .f) _ _ (c .before .before .before .before .pre .1) (c .before .if1 .taken)
 
 descend-far-requires : (t : ℕ) → descend-lts.Need-far-requires (calls t) (descend-at t) descend.Post
-descend-far-requires t c κs = omega (arith, low-place _ _ _ (c .before .before .before .args .f) _ _ (c .before .before .before .pre .1))
+descend-far-requires t c κs = omega (arith, low-place _ _ (c .before .before .before .args .f) _ _ (c .before .before .before .pre .1))
 
 descend-load-requires : (t : ℕ) → descend-lts.Need-load-requires (calls t) (descend-at t) descend.Post
-descend-load-requires t c κs = child-in _ _ _ (c .before .before .before .before .args .f) _ _ (c .before .before .before .before .pre .1) (c .before .if1 .left) false _ (c .far .ensures)
+descend-load-requires t c κs = child-in _ _ (c .before .before .before .before .args .f) _ _ (c .before .before .before .before .pre .1) (c .before .if1 .left) false _ (c .far .ensures)
 
 descend-near-requires : (t : ℕ) → descend-lts.Need-near-requires (calls t) (descend-at t) descend.Post
-descend-near-requires t c κs = omega (arith, low-place _ _ _ (c .before .before .before .before .before .before .args .f) _ _ (c .before .before .before .before .before .before .pre .1))
+descend-near-requires t c κs = omega (arith, low-place _ _ (c .before .before .before .before .before .before .args .f) _ _ (c .before .before .before .before .before .before .pre .1))
 
 descend-cast-way : (t : ℕ) → descend-lts.Need-cast-way (calls t) (descend-at t) descend.Post
-descend-cast-way t c = omega (arith, child-in _ _ _ (c .before .before .before .before .before .before .before .args .f) _ _ (c .before .before .before .before .before .before .before .pre .1) (c .before .before .before .before .if1 .left) (not (side (c .before .before .before .before .before .before .before .args .f) (c .before .before .load .result))) _ (c .near .ensures))
+descend-cast-way t c = omega (arith, child-in _ _ (c .before .before .before .before .before .before .before .args .f) _ _ (c .before .before .before .before .before .before .before .pre .1) (c .before .before .before .before .if1 .left) (not (side (c .before .before .before .before .before .before .before .args .f) (c .before .before .load .result))) _ (c .near .ensures))
 
 descend-add-way : (t : ℕ) → descend-lts.Need-add-way (calls t) (descend-at t) descend.Post
-descend-add-way t c = omega (arith, room _ _ _ (c .before .before .before .before .before .before .before .args .f) _ _ (c .before .before .before .before .before .before .before .pre .1) (c .before .before .before .before .if1 .left) .1)
+descend-add-way t c = omega (arith, room _ _ (c .before .before .before .before .before .before .before .args .f) _ _ (c .before .before .before .before .before .before .before .pre .1) (c .before .before .before .before .if1 .left) .1)
 
 descend-mul-way : (t : ℕ) → descend-lts.Need-mul-way (calls t) (descend-at t) descend.Post
-descend-mul-way t c = omega (arith, room _ _ _ (c .before .before .before .before .before .before .before .args .f) _ _ (c .before .before .before .before .before .before .before .pre .1) (c .before .before .before .before .if1 .left) .1)
+descend-mul-way t c = omega (arith, room _ _ (c .before .before .before .before .before .before .before .args .f) _ _ (c .before .before .before .before .before .before .before .pre .1) (c .before .before .before .before .if1 .left) .1)
 
 descend-slice-write-way : (t : ℕ) → descend-lts.Need-slice-write-way (calls t) (descend-at t) descend.Post
-descend-slice-write-way t c = room _ _ _ (c .before .before .before .before .before .before .before .args .f) _ _ (c .before .before .before .before .before .before .before .pre .1) (c .before .before .before .before .if1 .left) .0
+descend-slice-write-way t c = room _ _ (c .before .before .before .before .before .before .before .args .f) _ _ (c .before .before .before .before .before .before .before .pre .1) (c .before .before .before .before .if1 .left) .0
 
 descend-near-requires-2 : (t : ℕ) → descend-lts.Need-near-requires-2 (calls t) (descend-at t) descend.Post
-descend-near-requires-2 t c κs = omega (arith, low-place _ _ _ (c .before .before .before .before .before .before .before .args .f) _ _ (c .before .before .before .before .before .before .before .pre .1))
+descend-near-requires-2 t c κs = omega (arith, low-place _ _ (c .before .before .before .before .before .before .before .args .f) _ _ (c .before .before .before .before .before .before .before .pre .1))
 
 descend-load-requires-2 : (t : ℕ) → descend-lts.Need-load-requires-2 (calls t) (descend-at t) descend.Post
-descend-load-requires-2 t c κs = child-in _ _ _ (c .before .before .before .before .before .before .before .before .args .f) _ _ (c .before .before .before .before .before .before .before .before .pre .1) (c .before .before .before .before .before .if1 .left) true _ (c .near2 .ensures)
+descend-load-requires-2 t c κs = child-in _ _ (c .before .before .before .before .before .before .before .before .args .f) _ _ (c .before .before .before .before .before .before .before .before .pre .1) (c .before .before .before .before .before .if1 .left) true _ (c .near2 .ensures)
 
 descend-sub-descend : (t : ℕ) → descend-lts.Need-sub-descend (calls t) (descend-at t) descend.Post
 descend-sub-descend t c = omega arith
@@ -91,22 +91,22 @@ descend-by-turn-requires : (t : ℕ) → descend-lts.Need-by-turn-requires (call
 descend-by-turn-requires t c κs = tt
 
 descend-add-descend : (t : ℕ) → descend-lts.Need-add-descend (calls t) (descend-at t) descend.Post
-descend-add-descend t c = omega (arith, room _ _ _ (c .before .before .before .before .before .before .before .before .before .before .before .before .args .f) _ _ (c .before .before .before .before .before .before .before .before .before .before .before .before .pre .1) (c .before .before .before .before .before .before .before .before .before .if1 .left) .1)
+descend-add-descend t c = omega (arith, room _ _ (c .before .before .before .before .before .before .before .before .before .before .before .before .args .f) _ _ (c .before .before .before .before .before .before .before .before .before .before .before .before .pre .1) (c .before .before .before .before .before .before .before .before .before .if1 .left) .1)
 
 descend-descend-requires : (t : ℕ) → descend-lts.Need-descend-requires (calls t) (descend-at t) descend.Post
-descend-descend-requires t c κs = rw (whole (c .before .before .before .before .before .before .before .before .before .before .before .before .before .args .mem .now)) (omega (arith, at-lower _ _ _ (c .before .before .before .before .before .before .before .before .before .before .before .before .before .args .f) _ _ (c .before .before .before .before .before .before .before .before .before .before .before .before .before .pre .1) (c .before .before .before .before .before .before .before .before .before .before .if1 .left) (side (c .before .before .before .before .before .before .before .before .before .before .before .before .before .args .f) (c .before .before .before .before .before .before .before .before .load .result)) _ (c .before .before .before .before .before .before .near .ensures), c .before .before .before .before .before .before .before .before .before .before .before .before .before .pre .0), at-descendable _ _ _ (c .before .before .before .before .before .before .before .before .before .before .before .before .before .args .f) _ _ (c .before .before .before .before .before .before .before .before .before .before .before .before .before .pre .1) (c .before .before .before .before .before .before .before .before .before .before .if1 .left) (side (c .before .before .before .before .before .before .before .before .before .before .before .before .before .args .f) (c .before .before .before .before .before .before .before .before .load .result)) _ (c .before .before .before .before .before .before .near .ensures) _ (c .before .before .before .before .before .before .before .before .before .far .ensures) _ (c .before .before .before .before .before .before .before .before .load .ensures) _ (c .before .before .before .before .before .near2 .ensures) _ (c .before .before .before .before .load2 .ensures) _ (c .before .before .by-turn .ensures))
+descend-descend-requires t c κs = rw (whole (c .before .before .before .before .before .before .before .before .before .before .before .before .before .args .mem .now)) (omega (arith, at-lower _ _ (c .before .before .before .before .before .before .before .before .before .before .before .before .before .args .f) _ _ (c .before .before .before .before .before .before .before .before .before .before .before .before .before .pre .1) (c .before .before .before .before .before .before .before .before .before .before .if1 .left) (side (c .before .before .before .before .before .before .before .before .before .before .before .before .before .args .f) (c .before .before .before .before .before .before .before .before .load .result)) _ (c .before .before .before .before .before .before .near .ensures), c .before .before .before .before .before .before .before .before .before .before .before .before .before .pre .0), at-descendable _ _ (c .before .before .before .before .before .before .before .before .before .before .before .before .before .args .f) _ _ (c .before .before .before .before .before .before .before .before .before .before .before .before .before .pre .1) (c .before .before .before .before .before .before .before .before .before .before .if1 .left) (side (c .before .before .before .before .before .before .before .before .before .before .before .before .before .args .f) (c .before .before .before .before .before .before .before .before .load .result)) _ (c .before .before .before .before .before .before .near .ensures) _ (c .before .before .before .before .before .before .before .before .before .far .ensures) _ (c .before .before .before .before .before .before .before .before .load .ensures) _ (c .before .before .before .before .before .near2 .ensures) _ (c .before .before .before .before .load2 .ensures) _ (c .before .before .by-turn .ensures))
 
 descend-step-visits-requires : (t : ℕ) → descend-lts.Need-step-visits-requires (calls t) (descend-at t) descend.Post
 descend-step-visits-requires t c κs = tt
 
 descend-add-t28 : (t : ℕ) → descend-lts.Need-add-t28 (calls t) (descend-at t) descend.Post
-descend-add-t28 t c = omega (arith, few _ _ _ (c .before .before .before .before .before .before .before .before .before .before .before .before .before .before .before .before .before .before .args .f) _ _ (at-descendable _ _ _ (c .before .before .before .before .before .before .before .before .before .before .before .before .before .before .before .before .before .before .args .f) _ _ (c .before .before .before .before .before .before .before .before .before .before .before .before .before .before .before .before .before .before .pre .1) (c .before .before .before .before .before .before .before .before .before .before .before .before .before .before .before .if1 .left) (side (c .before .before .before .before .before .before .before .before .before .before .before .before .before .before .before .before .before .before .args .f) (c .before .before .before .before .before .before .before .before .before .before .before .before .before .load .result)) _ (c .before .before .before .before .before .before .before .before .before .before .before .near .ensures) _ (c .before .before .before .before .before .before .before .before .before .before .before .before .before .before .far .ensures) _ (c .before .before .before .before .before .before .before .before .before .before .before .before .before .load .ensures) _ (c .before .before .before .before .before .before .before .before .before .before .near2 .ensures) _ (c .before .before .before .before .before .before .before .before .before .load2 .ensures) _ (c .before .before .before .before .before .before .before .by-turn .ensures)) _ ((rw (whole (c .before .before .before .before .before .before .before .before .before .before .before .before .before .before .before .before .before .before .args .mem .now)) at (c .before .before .before .before .descend .ensures)) .0), c .before .step-visits .ensures .1)
+descend-add-t28 t c = omega (arith, few _ _ (c .before .before .before .before .before .before .before .before .before .before .before .before .before .before .before .before .before .before .args .f) _ _ (at-descendable _ _ (c .before .before .before .before .before .before .before .before .before .before .before .before .before .before .before .before .before .before .args .f) _ _ (c .before .before .before .before .before .before .before .before .before .before .before .before .before .before .before .before .before .before .pre .1) (c .before .before .before .before .before .before .before .before .before .before .before .before .before .before .before .if1 .left) (side (c .before .before .before .before .before .before .before .before .before .before .before .before .before .before .before .before .before .before .args .f) (c .before .before .before .before .before .before .before .before .before .before .before .before .before .load .result)) _ (c .before .before .before .before .before .before .before .before .before .before .before .near .ensures) _ (c .before .before .before .before .before .before .before .before .before .before .before .before .before .before .far .ensures) _ (c .before .before .before .before .before .before .before .before .before .before .before .before .before .load .ensures) _ (c .before .before .before .before .before .before .before .before .before .before .near2 .ensures) _ (c .before .before .before .before .before .before .before .before .before .load2 .ensures) _ (c .before .before .before .before .before .before .before .by-turn .ensures)) _ ((rw (whole (c .before .before .before .before .before .before .before .before .before .before .before .before .before .before .before .before .before .before .args .mem .now)) at (c .before .before .before .before .descend .ensures)) .0), c .before .step-visits .ensures .1)
 
 descend-same-length : (t : ℕ) → descend-lts.Need-same-length (calls t) (descend-at t) descend.Post
 descend-same-length t c = c .before .before .before .before .descend .kept .1 .1 .1 .0 ∙ length-set (c .before .before .before .before .before .before .before .before .before .before .before .before .before .before .before .before .before .before .args .way .now) (c .before .before .before .before .before .before .before .before .before .before .before .before .before .before .before .before .before .before .args .depth + 1) (c .before .before .before .before .before .before .before .before .before .before .before .near .result)
 
 descend-returns-2 : (t : ℕ) → descend-lts.Need-returns-2 (calls t) (descend-at t) descend.Post
-descend-returns-2 t c = goes-on _ _ _ (c .before .before .before .before .before .before .before .before .before .before .before .before .before .before .before .before .before .before .args .f) _ _ (c .before .before .before .before .before .before .before .before .before .before .before .before .before .before .before .before .before .before .pre .1) (c .before .before .before .before .before .before .before .before .before .before .before .before .before .before .before .if1 .left) _ (c .before .before .before .before .before .before .before .before .before .before .before .before .before .before .far .ensures) _ (c .before .before .before .before .before .before .before .before .before .before .before .before .before .load .ensures) _ (c .before .before .before .before .before .before .before .before .before .before .before .near .ensures) _ _ (c .before .before .before .before .descend .result) ((rw (whole (c .before .before .before .before .before .before .before .before .before .before .before .before .before .before .before .before .before .before .args .mem .now)) at (c .before .before .before .before .descend .ensures)) .0) _ (c .before .step-visits .ensures .0) ((rw (whole (c .before .before .before .before .before .before .before .before .before .before .before .before .before .before .before .before .before .before .args .mem .now)) at (c .before .before .before .before .descend .ensures)) .1)
+descend-returns-2 t c = goes-on _ _ (c .before .before .before .before .before .before .before .before .before .before .before .before .before .before .before .before .before .before .args .f) _ _ (c .before .before .before .before .before .before .before .before .before .before .before .before .before .before .before .before .before .before .pre .1) (c .before .before .before .before .before .before .before .before .before .before .before .before .before .before .before .if1 .left) _ (c .before .before .before .before .before .before .before .before .before .before .before .before .before .before .far .ensures) _ (c .before .before .before .before .before .before .before .before .before .before .before .before .before .load .ensures) _ (c .before .before .before .before .before .before .before .before .before .before .before .near .ensures) _ _ (c .before .before .before .before .descend .result) ((rw (whole (c .before .before .before .before .before .before .before .before .before .before .before .before .before .before .before .before .before .before .args .mem .now)) at (c .before .before .before .before .descend .ensures)) .0) _ (c .before .step-visits .ensures .0) ((rw (whole (c .before .before .before .before .before .before .before .before .before .before .before .before .before .before .before .before .before .before .args .mem .now)) at (c .before .before .before .before .descend .ensures)) .1)
 
 pub +descend-spec : {M : Type 1} → statement M
 +descend-spec =

@@ -17,31 +17,31 @@ returns : tie.Need-returns
 returns c = follows-none _ _ _ _ (c .before .before .before .before .pre) (c .if1 .taken)
 
 far-requires : tie.Need-far-requires
-far-requires c κs = omega (arith, low-place _ _ _ 0 _ _ (c .before .before .before .before .pre))
+far-requires c κs = omega (arith, low-place _ _ 0 _ _ (c .before .before .before .before .pre))
 
 load-requires : tie.Need-load-requires
-load-requires c κs = child-in _ _ _ 0 _ _ (c .before .before .before .before .before .pre) (c .before .if1 .left) false _ (c .far .ensures)
+load-requires c κs = child-in _ _ 0 _ _ (c .before .before .before .before .before .pre) (c .before .if1 .left) false _ (c .far .ensures)
 
 add-deep : tie.Need-add-deep
-add-deep c = omega (arith, room _ _ _ 0 _ _ (c .before .before .before .before .before .before .before .before .pre) (c .before .before .before .before .if1 .left) .1)
+add-deep c = omega (arith, room _ _ 0 _ _ (c .before .before .before .before .before .before .before .before .pre) (c .before .before .before .before .if1 .left) .1)
 
 near-requires : tie.Need-near-requires
-near-requires c κs = omega (arith, low-place _ _ _ 0 _ _ (c .before .before .before .before .before .before .before .before .pre))
+near-requires c κs = omega (arith, low-place _ _ 0 _ _ (c .before .before .before .before .before .before .before .before .pre))
 
 cast-far : tie.Need-cast-far
-cast-far c = omega (arith, child-in _ _ _ 0 _ _ (c .before .before .before .before .before .before .before .before .before .pre) (c .before .before .before .before .before .if1 .left) (not (turn (c .before .before .before .load .result) (c .before .before .before .before .before .before .before .before .before .args .behind))) _ (c .near .ensures))
+cast-far c = omega (arith, child-in _ _ 0 _ _ (c .before .before .before .before .before .before .before .before .before .pre) (c .before .before .before .before .before .if1 .left) (not (turn (c .before .before .before .load .result) (c .before .before .before .before .before .before .before .before .before .args .behind))) _ (c .near .ensures))
 
 mul-far : tie.Need-mul-far
-mul-far c = omega (arith, room _ _ _ 0 _ _ (c .before .before .before .before .before .before .before .before .before .pre) (c .before .before .before .before .before .if1 .left) .1)
+mul-far c = omega (arith, room _ _ 0 _ _ (c .before .before .before .before .before .before .before .before .before .pre) (c .before .before .before .before .before .if1 .left) .1)
 
 slice-write-far : tie.Need-slice-write-far
-slice-write-far c = room _ _ _ 0 _ _ (c .before .before .before .before .before .before .before .before .before .pre) (c .before .before .before .before .before .if1 .left) .0
+slice-write-far c = room _ _ 0 _ _ (c .before .before .before .before .before .before .before .before .before .pre) (c .before .before .before .before .before .if1 .left) .0
 
 near-requires-2 : tie.Need-near-requires-2
-near-requires-2 c κs = omega (arith, low-place _ _ _ 0 _ _ (c .before .before .before .before .before .before .before .before .before .pre))
+near-requires-2 c κs = omega (arith, low-place _ _ 0 _ _ (c .before .before .before .before .before .before .before .before .before .pre))
 
 load-requires-2 : tie.Need-load-requires-2
-load-requires-2 c κs = child-in _ _ _ 0 _ _ (c .before .before .before .before .before .before .before .before .before .before .pre) (c .before .before .before .before .before .before .if1 .left) true _ (c .near2 .ensures)
+load-requires-2 c κs = child-in _ _ 0 _ _ (c .before .before .before .before .before .before .before .before .before .before .pre) (c .before .before .before .before .before .before .if1 .left) true _ (c .near2 .ensures)
 
 by-turn-requires : tie.Need-by-turn-requires
 by-turn-requires c κs = tt

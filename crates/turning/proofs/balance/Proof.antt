@@ -2,7 +2,8 @@
 use native.Mathlib.Omega.{arith}
 use mathlib.Core.Bool.{true}
 use borrow.Author.Needs.{needs}
-use Rattle.turning.proofs.Sides.{both-within, both-small, read-at}
+use Rattle.summing.proofs.Sums.{read-at}
+use Rattle.turning.proofs.Sides.{both-within, both-small}
 use Rattle.turning.proofs.Balancing.{mendable-both, low-both, steep-left, steep-right, balance-left, balance-right, balance-here}
 use Rattle.turning.proofs.balance.Statement.{statement}
 use Rattle.turning.proofs.balance.Tie as tie

@@ -1,7 +1,8 @@
 -- `turning::turn`: the single turn and the double one, step by step (Turning). Assumes nothing.
 use native.Mathlib.Omega.{arith}
 use borrow.Author.Needs.{needs}
-use Rattle.turning.proofs.Sides.{both-within, both-small, read-at, copied-at, over-at, mendable-at}
+use Rattle.summing.proofs.Sums.{read-at}
+use Rattle.turning.proofs.Sides.{both-within, both-small, copied-at, over-at, mendable-at}
 use Rattle.turning.proofs.Turning.{within-below, mend-single-1, mend-single-2, turn-single, within-inner, within-second, mend-double-1, mend-double-2, mend-double-3, turn-double}
 use Rattle.turning.proofs.turn.Statement.{statement}
 use Rattle.turning.proofs.turn.Tie as tie
