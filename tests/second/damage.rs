@@ -19,11 +19,11 @@ pub fn change_word(rng: &mut Rng, memory: &mut [u8], link: &Link) {
         1 => old.wrapping_sub(1),
         2 => other,
         3 => old ^ 1 << rng.below(64),
-        4 => old & !TOP32 | place,
+        4 => old & !TOP32 | *rng.pick(&[place, 8 * place, 8 * place + 4]),
         5 => old ^ place << 16, // the same place, read in 16 bits
         6 => old.wrapping_add(1 << 32),
         7 => old.wrapping_sub(1 << 32),
-        8 => old & !TOP32 | (2 * old + rng.below(2)) & TOP32, // a seat for a place
+        8 => old & !TOP32 | (old + *rng.pick(&[1, 2, 4])) & TOP32, // no place's link
         9 => *rng.pick(&[0, 1, u64::MAX, TOP32, TOP32 + 1, OPEN_END, LAST_MOMENT, 1 << 63, 65, 4096, 4097]),
         _ => rng.next() >> rng.below(64),
     };
@@ -40,7 +40,7 @@ fn swap_nodes(memory: &mut [u8], a: usize, b: usize) {
 
 /// Changes one node of the tree and makes all above it agree with the change.
 pub fn lie(rng: &mut Rng, memory: &mut [u8]) {
-    let place_of = |memory: &[u8], seat: usize| (word(memory, at(seat, 3)) & TOP32) as usize;
+    let place_of = |memory: &[u8], seat: usize| (word(memory, at(seat, 3)) & TOP32) as usize / 8;
     let mut path = vec![ROOT];
     loop {
         let here = *path.last().unwrap();
@@ -83,7 +83,7 @@ pub fn lie(rng: &mut Rng, memory: &mut [u8]) {
             let child = place_of(memory, 2 * place + rng.below(2) as usize);
             let spare = word(memory, 7) as usize;
             let to = *rng.pick(&[0, root, here / 2, sibling, child, spare, room as usize + 1]) as u64;
-            set_word(memory, at(here, 3), links & !TOP32 | to);
+            set_word(memory, at(here, 3), links & !TOP32 | 8 * to + *rng.pick(&[0, 0, 0, 4]));
         }
         6 if !leaf => {
             // one child twice: the other is written over
@@ -93,7 +93,7 @@ pub fn lie(rng: &mut Rng, memory: &mut [u8]) {
                 set_word(memory, at(from ^ 1, i), value);
             }
         }
-        7 => set_word(memory, at(here, 3), if leaf { rng.span(1, room) } else { links & TOP32 }), // a place at height 0
+        7 => set_word(memory, at(here, 3), if leaf { 8 * rng.span(1, room) } else { links & TOP32 }), // a place at height 0
         4 => {
             let value = by(rng, word(memory, at(here, 0))); // a leaf's key
             set_word(memory, at(here, 0), value);
@@ -108,7 +108,7 @@ pub fn lie(rng: &mut Rng, memory: &mut [u8]) {
         let q = place_of(memory, seat);
         let w = |side: usize, i: usize| word(memory, at(2 * q + side, i));
         let height = 1 + (w(0, 3) >> 32).max(w(1, 3) >> 32);
-        let sums = [least(w(0, 0), w(1, 0)), w(0, 1).max(w(1, 1)), w(0, 2).min(w(1, 2)), height << 32 | q as u64];
+        let sums = [least(w(0, 0), w(1, 0)), w(0, 1).max(w(1, 1)), w(0, 2).min(w(1, 2)), height << 32 | 8 * q as u64];
         sums.into_iter().enumerate().for_each(|(i, value)| set_word(memory, at(seat, i), value));
     }
 }

@@ -6,7 +6,7 @@ use crate::model::{need, settings_in_bounds, Link, Void, OPEN_END};
 
 pub const HEADER: usize = 28; // words
 pub const NODE: usize = 4;
-pub const ROOT: usize = 1; // the root's seat; the left child of a node with place q is at seat 2q, the right one at 2q + 1
+pub const ROOT: usize = 1; // the root's seat; the children of a node with place q, whose link is 8q, are at the seats 2q and 2q + 1
 pub const SPARE_HEIGHT: u64 = 1 << 31;
 
 /// The word i of the node at a seat: lo, top, low, links. Seat 1 follows the header.
@@ -32,16 +32,20 @@ pub struct Node {
     top: u64,
     low: u64,
     height: u64,
-    place: usize,
+    link: usize,
 }
 
 impl Node {
     fn read(memory: &[u8], seat: usize) -> Node {
         let [lo, top, low, links] = [0, 1, 2, 3].map(|i| word(memory, at(seat, i)));
-        Node { lo, top, low, height: links >> 32, place: (links & 0xFFFF_FFFF) as usize }
+        Node { lo, top, low, height: links >> 32, link: (links & 0xFFFF_FFFF) as usize }
     }
     fn is_leaf(&self) -> bool {
-        self.height == 0 && self.place == 0
+        self.height == 0 && self.link == 0
+    }
+    /// Of an inner node: where its children are.
+    fn place(&self) -> usize {
+        self.link / 8
     }
     fn void(&self) -> Void {
         Void { channel: 1023 - self.lo % 1024, start: self.lo / 1024, end: self.top }
@@ -106,9 +110,9 @@ pub fn whole(memory: &[u8]) -> Result<Image, &'static str> {
         demand(l.lo == 0 && l.top == 0, "spares: cleared")?;
         demand(l.height == SPARE_HEIGHT, "spares: height")?;
         demand(l.low == after, "spares: how many come after")?;
-        demand(after > 0 || l.place == 0, "spares: the last has no next")?;
+        demand(after > 0 || l.link == 0, "spares: the last has no next")?;
         demand(r.lo == 0 && r.top == 0 && r.low == 0 && r.is_leaf(), "spares: the right seat cleared")?;
-        place = l.place as u64;
+        place = l.link as u64; // a spare place's link is the next one's number
     }
     demand(seen.iter().all(|s| *s), "every place accounted for")?;
 
@@ -133,14 +137,14 @@ fn walk(seats: &Seats, n: Node, seen: &mut [bool], voids: &mut Vec<Void>) -> Res
         voids.push(n.void());
         return Ok(());
     }
-    demand(1 <= n.place && n.place < seen.len(), "places: the children's")?;
-    let (l, r) = (seats.left(n.place), seats.right(n.place));
+    demand(n.link % 8 == 0 && 1 <= n.place() && n.place() < seen.len(), "places: the children's")?;
+    let (l, r) = (seats.left(n.place()), seats.right(n.place()));
     demand(n.height == 1 + l.height.max(r.height), "tree: height")?;
     demand(l.height.abs_diff(r.height) <= 1, "tree: balance")?;
     // Heights fall at each step, but from a height that memory names: a spare's 2^31 must not be walked.
     demand(n.height <= 64, "tree: height in bounds")?;
-    demand(!seen[n.place], "tree: each place once")?;
-    seen[n.place] = true;
+    demand(!seen[n.place()], "tree: each place once")?;
+    seen[n.place()] = true;
     walk(seats, l, seen, voids)?;
     walk(seats, r, seen, voids)?;
     demand(n.lo == l.lo.min(r.lo), "summaries: lo")?;
@@ -156,7 +160,7 @@ impl Image {
         let mut marked = None; // the deepest so far
         while !at.is_leaf() {
             visits += 1; // A: the next node down
-            let (left, right) = (self.seats.left(at.place), self.seats.right(at.place));
+            let (left, right) = (self.seats.left(at.place()), self.seats.right(at.place()));
             if right.lo / 1024 <= r {
                 visits += 1; // B: the left child passed by
                 if left.top >= f {
@@ -173,10 +177,10 @@ impl Image {
         let Some(mut at) = marked else { return (None, visits) };
         while !at.is_leaf() {
             visits += 1; // C: the right child
-            let right = self.seats.right(at.place);
+            let right = self.seats.right(at.place());
             if right.top < f {
                 visits += 1; // C: the left child
-                at = self.seats.left(at.place);
+                at = self.seats.left(at.place());
             } else {
                 at = right;
             }
@@ -282,7 +286,7 @@ fn plant(memory: &mut [u8], seat: usize, voids: &[Void], height: u64, free: &mut
     plant(memory, 2 * place, &voids[..left as usize], hl, free, rng, crook);
     plant(memory, 2 * place + 1, &voids[left as usize..], hr, free, rng, crook);
     let (l, r) = (Node::read(memory, 2 * place), Node::read(memory, 2 * place + 1));
-    let links = (1 + l.height.max(r.height) << 32) + place as u64;
+    let links = (1 + l.height.max(r.height) << 32) + 8 * place as u64;
     for (i, value) in [l.lo.min(r.lo), l.top.max(r.top), l.low.min(r.low), links].into_iter().enumerate() {
         set_word(memory, at(seat, i), value);
     }

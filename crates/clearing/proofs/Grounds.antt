@@ -1,7 +1,7 @@
 -- The laws of the ground: what a place given back and a change of nodes leave of it.
 use mathlib.Core.Path.{_≡_, refl, sym, ap, _∙_}
 use mathlib.Core.List.{List, [], _∷_}
-use Prim.Native.Nat.{ℕ, _+_, _*_, _/_, _≤_, _<_}
+use Prim.Native.Nat.{ℕ, _+_, _*_, _/_, _%_, _≤_, _<_}
 use native.Mathlib.Omega.{arith}
 use lib.ListN.{length}
 use Rattle.numbers.specs.Words.{word, store}
@@ -29,14 +29,14 @@ module _ (m0 m : List ℕ) (n : ℕ) (h ps : List ℕ) (G : Ground m0 m n h ps) 
   ground-here = record { some = G .some; small = G .small; long = G .long; heads = G .heads; next = G .next; spare = G .spare; past = past-none (bytesFor n) m }
 
   -- seats that are the link's, and at no spare place, were written
-  pub ground-kept : (k : ℕ → ℕ) (m′ : List ℕ) → Kept k m m′ → ((z : ℕ) → 1 ≤ among (z / 2) ps → k z ≡ 0) → ((z : ℕ) → 2 * n ≤ z → k z ≡ 0) → Ground m0 m′ n h ps
+  pub ground-kept : (k : ℕ → ℕ) (m′ : List ℕ) → Kept k m m′ → ((z : ℕ) → 1 ≤ among (z / 8) ps → k z ≡ 0) → ((z : ℕ) → 8 * n ≤ z → k z ≡ 0) → Ground m0 m′ n h ps
   ground-kept k m′ f g o = record {
     some = G .some;
     small = G .small;
     long = omega (arith, G .long, f .len);
     heads = λ j l d. word-kept k m m′ f j l ∙ G .heads j l d;
     next = word-kept k m m′ f 7 (omega arith) ∙ G .next;
-    spare = spares-frame ps m m′ (λ z u. node-kept k m m′ f z (g z u)) (G .spare);
+    spare = spares-frame ps m m′ (λ z v u. node-kept k m m′ f z v (g z u)) (G .spare);
     past = past-then (G .past) (past-kept k m m′ n f o);
   }
 
@@ -46,12 +46,12 @@ module _ (m0 m : List ℕ) (n : ℕ) (h ps : List ℕ) (G : Ground m0 m n h ps) 
     first-low [] f = omega arith
     first-low (q ∷ qs) f = omega (arith, G .small, below-in q n (omega (arith, f q, same-self q)))
 
-    pub give-pre : Within m (2 * p) × Within m (2 * p + 1) × (word m 7 < 65536)
+    pub give-pre : Within m (8 * p) × Within m (8 * p + 4) × (word m 7 < 65536)
     give-pre = (omega (arith, G .small, G .long), omega (arith, G .small, G .long), omega (arith, G .next, first-low ps each))
 
     module _ (m′ : List ℕ) (k : ℕ) (ek : k ≡ length ps) (s : Gives p k m m′) where
-      pub nodes-given : (z : ℕ) → same (z / 2) p ≡ 0 → nodeAt m′ z ≡ nodeAt m z
-      nodes-given z e = node-kept _ (store m 7 p) m′ (s .kept) z e ∙ node-put m p z
+      pub nodes-given : (z : ℕ) → z % 4 ≡ 0 → same (z / 8) p ≡ 0 → nodeAt m′ z ≡ nodeAt m z
+      nodes-given z v e = node-kept _ (store m 7 p) m′ (s .kept) z v e ∙ node-put m p z
 
       pub ground-given : Ground m0 m′ n h (p ∷ ps)
       unfolding Spares
@@ -64,7 +64,7 @@ module _ (m0 m : List ℕ) (n : ℕ) (h ps : List ℕ) (G : Ground m0 m n h ps) 
         spare = (
           rw (ek, G .next) at (s .left),
           s .right,
-          spares-frame ps m m′ (λ z u. nodes-given z (same-other (z / 2) p (λ e. omega (arith, u, ap (λ y. among y ps) e)))) (G .spare),
+          spares-frame ps m m′ (λ z v u. nodes-given z v (same-other (z / 8) p (λ e. omega (arith, u, ap (λ y. among y ps) e)))) (G .spare),
         );
-        past = past-then (G .past) (past-then (past-store m 7 p n (omega arith) (G .some)) (past-kept _ (store m 7 p) m′ n (s .kept) (λ z l. same-other (z / 2) p (omega arith))));
+        past = past-then (G .past) (past-then (past-store m 7 p n (omega arith) (G .some)) (past-kept _ (store m 7 p) m′ n (s .kept) (λ z l. same-other (z / 8) p (omega arith))));
       }

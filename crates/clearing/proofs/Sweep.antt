@@ -39,7 +39,7 @@ module _ (bound : ℕ) (m : List ℕ) (s : State) (L : Lasting bound m s) where
   words = (P .heads 6 (omega arith), P .heads 0 (omega arith))
 
   module _ (kept room : ℕ) (ek : kept ≡ word m 6) (er : room ≡ word m 0) where
-    pub counts : (kept ≤ room + 1) × (room ≤ 32768) × (1 ≤ kept)
+    pub counts : (kept ≤ room + 1) × (room ≤ 8192) × (1 ≤ kept)
     counts = omega (arith, L .link .placed .many, L .link .holds .small, words, size-some t)
 
     abbrev K : ℕ

@@ -4,12 +4,12 @@ use mathlib.Core.Path.{_≡_}
 use mathlib.Core.Logic.{_≢_}
 use mathlib.Core.Bool.{Bool, true, false}
 use mathlib.Core.List.{List, _++_}
-use Prim.Native.Nat.{ℕ, _+_, _/_, _≤_, _<_}
+use Prim.Native.Nat.{ℕ, _+_, _/_, _%_, _≤_, _<_}
 use lib.ListN.{length, getD}
 use Rattle.numbers.specs.Words.{word}
 use Rattle.shape.specs.Tree.{Tree, size, height, same, uses, In, Balanced}
 use Rattle.shape.specs.Clear.{Rest, gone, rest, clear, freed}
-use Rattle.node.specs.Layout.{headerWords, bytesFor, highest, nodeAt}
+use Rattle.node.specs.Layout.{headerWords, bytesFor, highest, nodeAt, mostPlaces}
 use Rattle.node.specs.Rep.{Stands}
 use Rattle.state.specs.State.{State, first}
 use Rattle.state.specs.Sound.{among, below}
@@ -20,7 +20,7 @@ use Rattle.memory.specs.Steps.{Link}
 -- m has the header h, but for the first spare place, and the spare places ps; past its n places all is as it was in m0
 pub record Ground (m0 m : List ℕ) (n : ℕ) (h ps : List ℕ) : Type 0 where
   pub some : 1 ≤ n
-  pub small : n ≤ 32768
+  pub small : n ≤ mostPlaces
   pub long : bytesFor n ≤ length m
   pub heads : (j : ℕ) → j < headerWords → j ≢ 7 → word m j ≡ getD h j 0
   pub next : word m 7 ≡ first ps
@@ -33,7 +33,7 @@ pub record Site (n : ℕ) (h m : List ℕ) (s : ℕ) (t : Tree) (ps : List ℕ) 
   pub stands : Stands m s t
   pub even : Balanced t
   pub low : height t ≤ highest
-  pub once : (z : ℕ) → same z (s / 2) + uses z t + among z ps ≤ below z n
+  pub once : (z : ℕ) → same z (s / 8) + uses z t + among z ps ≤ below z n
   pub few : length ps + size t ≤ 65536
 
 -- what the code says is left of a tree: nothing, or a tree at its seat; and how many places are spare now
@@ -51,7 +51,7 @@ pub record Cleaned (b n : ℕ) (h m : List ℕ) (s : ℕ) (t : Tree) (ps : List 
   pub left : LeftAt m′ s x (clear b t)
   pub many : x .spare ≡ length (freed b t ++ ps)
   -- no node outside the tree was written
-  pub nodes : (z : ℕ) → same z s + uses (z / 2) t ≡ 0 → nodeAt m′ z ≡ nodeAt m z
+  pub nodes : (z : ℕ) → z % 4 ≡ 0 → same z s + uses (z / 8) t ≡ 0 → nodeAt m′ z ≡ nodeAt m z
 
 abbrev pub Clearable : List ℕ → (s k : ℕ) → Type 0
 Clearable m s k = (n : ℕ) × (h : List ℕ) × (t : Tree) × (ps : List ℕ) × Site n h m s t ps × (k ≡ length ps)

@@ -2,6 +2,7 @@
 // A part that has none is not looked into; what is left of a node's two sides is joined by that node, or goes where the node was.
 ghost use mathlib.Core.Path.{_≡_};
 ghost use Rattle.clearing.specs.Clears.{Clearable, Cleans, Lasts, Clears};
+use node::PLACE_WORDS;
 use node::copy;
 use node::far;
 use node::near;
@@ -27,13 +28,13 @@ fn below(mem: &mut [u8], s: usize, bound: u64, spare: &mut u64) -> bool
     let right_gone = below(mem, right, bound, spare);
     if left_gone {
         copy(mem, right, s);
-        memory::give_spare(mem, n.place, *spare);
+        memory::give_spare(mem, n.place / PLACE_WORDS, *spare);
         *spare = *spare + 1;
         return right_gone;
     }
     if right_gone {
         copy(mem, left, s);
-        memory::give_spare(mem, n.place, *spare);
+        memory::give_spare(mem, n.place / PLACE_WORDS, *spare);
         *spare = *spare + 1;
         return false;
     }

@@ -1,10 +1,10 @@
 -- The steps of a hanging: a node over the two trees here, or the inner child beside the lower tree, hung anew, and a balance on the way up.
 -- Once for both sides.
-use mathlib.Core.Path.{_≡_, sym, ap}
+use mathlib.Core.Path.{_≡_, refl, sym, ap}
 use mathlib.Core.Logic.{_≢_}
 use mathlib.Core.Bool.{Bool, true, false}
 use mathlib.Core.List.{List}
-use Prim.Native.Nat.{ℕ, _+_, _/_, _<_, _≤_, max}
+use Prim.Native.Nat.{ℕ, _+_, _*_, _/_, _<_, _≤_, max}
 use native.Mathlib.Omega.{arith}
 use Rattle.shape.specs.Tree.{Tree, node, height, same, uses}
 use Rattle.shape.specs.Side.{over, near, far}
@@ -18,15 +18,15 @@ use Rattle.node.specs.Layout.{highest, Within, nodeAt, Kept, Over, Copied}
 use Rattle.node.specs.Rep.{Stands}
 use Rattle.node.proofs.Frames.{kept-then, kept-less, within-kept}
 use Rattle.node.proofs.Reps.{tall, within, stands-frame}
-use Rattle.node.proofs.Seats.{nearSeat, farSeat, near-half, far-half, near-far, near-stands, far-stands, stands-past, copied-past, reads-height, Parts, parts}
+use Rattle.node.proofs.Seats.{nearOf, farOf, nearSeat, farSeat, near-half, far-half, near-is, far-is, near-far, near-stands, far-stands, stands-past, copied-past, reads-height, Parts, parts}
 use Rattle.turning.specs.Turns.{Two, Both, Arranged, Balances}
-use Rattle.turning.proofs.Sides.{uses-over, uses-sides, apart, seat-free, two-on, two-over}
+use Rattle.turning.proofs.Sides.{uses-over, uses-sides, apart, seat-free, two-on, two-over, copied-at, over-at, within-at, read-by}
 use Rattle.joining.specs.Joins.{Hangs}
 
 -- ---- with the tree on the side named first
-hangs-on : {m m′ : List ℕ} {t w : ℕ} (a b : Tree) (s : Bool) → Hangs s t w m m′ → Two m t w (near s a b) (far s a b) → Arranged t (over s w a b) (hang s w a b) m m′
-hangs-on a b true h f = h a b f
-hangs-on a b false h f = h b a f
+hangs-on : {m m′ : List ℕ} {t w : ℕ} (v : ℕ) → w ≡ 8 * v → (a b : Tree) (s : Bool) → Hangs s t w m m′ → Two m t v (near s a b) (far s a b) → Arranged t (over s v a b) (hang s v a b) m m′
+hangs-on v e a b true h f = h v e a b f
+hangs-on v e a b false h f = h v e b a f
 
 hang-below : (s : Bool) (w x : ℕ) (c d b : Tree) → height b + 1 < height (over s x c d)
     → hang s w (over s x c d) b ≡ balance x (near s c (hang s w d b)) (far s c (hang s w d b))
@@ -40,7 +40,7 @@ record Step (m : List ℕ) (s : Bool) (t w x : ℕ) (c d b : Tree) : Type 0 wher
   c-at : Stands m (nearSeat s x) c
   d-at : Stands m (farSeat s x) d
   b-at : Stands m (farSeat s w) b
-  once : (z : ℕ) → same z (t / 2) + (same z w + (same z x + uses z c + uses z d) + uses z b) ≤ 1
+  once : (z : ℕ) → same z (t / 8) + (same z w + (same z x + uses z c + uses z d) + uses z b) ≤ 1
   steep : height b + 1 ≤ max (height c) (height d)
   low : max (height c) (height d) + 2 ≤ highest
 
@@ -65,15 +65,15 @@ module _ {m : List ℕ} {s : Bool} {t w x : ℕ} {c d b : Tree} (f : Step m s t 
         (λ z. rw (far-half s x) (omega (arith, f .once z)))
         (omega (arith, f .steep, f .low))
 
-    module _ (m2 : List ℕ) (hangs : Hangs s (farSeat s x) w m1 m2) where
+    module _ (m2 : List ℕ) (hangs : Hangs s (farSeat s x) (8 * w) m1 m2) where
       hung : Arranged (farSeat s x) (over s w d b) (hang s w d b) m1 m2
-      hung = hangs-on d b s hangs two1
+      hung = hangs-on w refl d b s hangs two1
 
       c2 : Stands m2 (nearSeat s x) c
       c2 =
-          let g : uses (nearSeat s x / 2) (over s w d b) ≡ 0 = rw (near-half s x) (omega (arith, f .once x, same-self x, uses-over x s w d b)) in
+          let g : uses (nearSeat s x / 8) (over s w d b) ≡ 0 = rw (near-half s x) (omega (arith, f .once x, same-self x, uses-over x s w d b)) in
           stands-frame (hung .kept) (omega (arith, g, same-other (nearSeat s x) (farSeat s x) (near-far s x)))
-          (λ z u. omega (arith, f .once (z / 2), uses-over (z / 2) s w d b, seat-free z (farSeat s x) x (far-half s x) (omega (arith, f .once (z / 2)))))
+          (λ z u. omega (arith, f .once (z / 8), uses-over (z / 8) s w d b, seat-free z (farSeat s x) x (far-half s x) (omega (arith, f .once (z / 8)))))
           c1
 
       two2 : Two m2 t x (near s c (hang s w d b)) (far s c (hang s w d b))
@@ -82,103 +82,121 @@ module _ {m : List ℕ} {s : Bool} {t w x : ℕ} {c d b : Tree} (f : Step m s t 
           (λ z. omega (arith, f .once z, hung .many z, uses-over z s w d b))
           (omega (arith, f .steep, f .low, hung .high, height-over s w d b))
 
-      hung-end : (m3 : List ℕ) → Balances t x m2 m3
+      hung-end : (m3 : List ℕ) → Balances t (8 * x) m2 m3
           → Stands m3 t (balance x (near s c (hang s w d b)) (far s c (hang s w d b)))
-          × Kept (λ z. same z t + (same (z / 2) w + (same (z / 2) x + uses (z / 2) c + uses (z / 2) d) + uses (z / 2) b)) m m3
+          × Kept (λ z. same z t + (same (z / 8) w + (same (z / 8) x + uses (z / 8) c + uses (z / 8) d) + uses (z / 8) b)) m m3
       hung-end m3 bal =
-          let i = bal _ _ two2 in (
+          let i = bal x refl _ _ two2 in (
             i .stands,
-            kept-then {n = λ z. same (z / 2) w + (same (z / 2) x + uses (z / 2) d + uses (z / 2) b)}
+            kept-then {n = λ z. same (z / 8) w + (same (z / 8) x + uses (z / 8) d + uses (z / 8) b)}
                 (kept-then (o1 .kept) (hung .kept) (λ z e. (
                   seat-free z _ w (near-half s w) (omega arith),
-                  omega (arith, seat-free z (farSeat s x) x (far-half s x) (omega arith), uses-over (z / 2) s w d b),
+                  omega (arith, seat-free z (farSeat s x) x (far-half s x) (omega arith), uses-over (z / 8) s w d b),
                 )))
                 (i .kept) (λ z e. (
                   omega arith,
-                  omega (arith, uses-sides (z / 2) s c (hang s w d b), hung .many (z / 2), uses-over (z / 2) s w d b),
+                  omega (arith, uses-sides (z / 8) s c (hang s w d b), hung .many (z / 8), uses-over (z / 8) s w d b),
                 )),
           )
 
+-- ---- seats as the code has them, by their equations
+pub both-at : (m : List ℕ) {u u′ w : ℕ} → u ≡ u′ → Both m u′ w → Both m u w
+both-at m e g = rw e g
+
+pub hangs-at : (m m′ : List ℕ) {u u′ w w′ : ℕ} (s : Bool) → u ≡ u′ → w ≡ w′ → Hangs s u w m m′ → Hangs s u′ w′ m m′
+hangs-at m m′ s e d h = rw (e, d) at h
+
+balances-at : (m m′ : List ℕ) (u : ℕ) {w w′ : ℕ} → w ≡ w′ → Balances u w m m′ → Balances u w′ m m′
+balances-at m m′ u e h = rw e at h
+
+lower-at : (m1 m : List ℕ) {u u′ : ℕ} → u ≡ u′ → nodeAt m1 u′ .height < nodeAt m u′ .height → nodeAt m1 u .height < nodeAt m u .height
+lower-at m1 m e h = rw e h
+
 -- ---- by the two nodes read
-module _ (m : List ℕ) (s : Bool) (t w : ℕ) (n k : Node) (en : n ≡ nodeAt m (nearSeat s w)) (ek : k ≡ nodeAt m (farSeat s w)) where
-  high-at : (a b : Tree) → Two m t w a b → Stands m (nearSeat s w) (near s a b)
-  high-at a b f = near-stands s w (f .first) (f .second)
+module _ (m : List ℕ) (s : Bool) (t w : ℕ) (n k : Node) (en : n ≡ nodeAt m (nearOf s w)) (ek : k ≡ nodeAt m (farOf s w)) where
+  module _ (v : ℕ) (e : w ≡ 8 * v) (a b : Tree) (f : Two m t v a b) where
+    high-at : Stands m (nearSeat s v) (near s a b)
+    high-at = near-stands s v (f .first) (f .second)
 
-  low-at : (a b : Tree) → Two m t w a b → Stands m (farSeat s w) (far s a b)
-  low-at a b f = far-stands s w (f .first) (f .second)
+    low-at : Stands m (farSeat s v) (far s a b)
+    low-at = far-stands s v (f .first) (f .second)
 
-  heights : (a b : Tree) → Two m t w a b → (n .height ≡ height (near s a b)) × (k .height ≡ height (far s a b))
-  heights a b f = (reads-height m _ n en (high-at a b f), reads-height m _ k ek (low-at a b f))
+    heights : (n .height ≡ height (near s a b)) × (k .height ≡ height (far s a b))
+    heights = (reads-height m _ n (read-by m (near-is s v e) en) high-at, reads-height m _ k (read-by m (far-is s v e) ek) low-at)
+
+    arranged : (m′ : List ℕ) → Stands m′ t (hang s v (near s a b) (far s a b)) → Kept (λ z. same z t + uses (z / 8) (node v a b)) m m′
+        → Arranged t (node v a b) (hang s v (near s a b) (far s a b)) m m′
+    arranged m′ st kept =
+        record {
+          stands = st;
+          many = λ z. omega (arith, weight-hang (λ j u. 0) (same z) s v (near s a b) (far s a b), uses-sides z s a b);
+          high = omega (arith, height-hang s v (near s a b) (far s a b), height-sides s a b);
+          kept = kept;
+        }
 
   pub low-side : Both m t w → k .height < 4294967290
-  low-side g = omega (arith, heights (g .0) (g .1) (g .2), g .2 .low, height-sides s (g .0) (g .1))
-
-  arranged : (a b : Tree) (m′ : List ℕ) → Stands m′ t (hang s w (near s a b) (far s a b)) → Kept (λ z. same z t + uses (z / 2) (node w a b)) m m′
-      → Arranged t (node w a b) (hang s w (near s a b) (far s a b)) m m′
-  arranged a b m′ st kept =
-      record {
-        stands = st;
-        many = λ z. omega (arith, weight-hang (λ j v. 0) (same z) s w (near s a b) (far s a b), uses-sides z s a b);
-        high = omega (arith, height-hang s w (near s a b) (far s a b), height-sides s a b);
-        kept = kept;
-      }
+  low-side (v, e, a, b, f) = omega (arith, heights v e a b f, f .low, height-sides s a b)
 
   -- ---- here
   pub hang-here : (m1 : List ℕ) → n .height ≤ k .height + 1 → Over t w m m1 → Hangs s t w m m1
-  hang-here m1 le o a b f =
-      let q : height (near s a b) ≤ height (far s a b) + 1 = omega (arith, heights a b f) in
-      arranged a b m1 (rw (hang-over s w (near s a b) (far s a b) q, ← over-sides s w a b) (two-over f m1 o)) (kept-less (o .kept) (λ z e. omega arith))
+  hang-here m1 le o v e a b f =
+      let q : height (near s a b) ≤ height (far s a b) + 1 = omega (arith, heights v e a b f) in
+      arranged v e a b f m1 (rw (hang-over s v (near s a b) (far s a b) q, ← over-sides s v a b) (two-over f m1 (over-at _ _ refl e o))) (kept-less (o .kept) (λ z u. omega arith))
 
   -- ---- further down
   module _ (deep : k .height + 1 < n .height) where
-    open-high : (a b : Tree) → Two m t w a b → Parts m s (n .place) (near s a b)
-    open-high a b f = parts m s (nearSeat s w) n en (omega arith) (near s a b) (high-at a b f)
+    module _ (v : ℕ) (e : w ≡ 8 * v) (a b : Tree) (f : Two m t v a b) where
+      open-high : Parts m s (n .place) (near s a b)
+      open-high = parts m s (nearSeat s v) n (read-by m (near-is s v e) en) (omega arith) (near s a b) (high-at v e a b f)
 
-    step : (a b : Tree) (f : Two m t w a b) → Step m s t w (n .place) (open-high a b f .a) (open-high a b f .c) (far s a b)
-    step a b f =
-        let v = open-high a b f in
-        let i = ap height (v .is) in
-        let j = height-over s (n .place) (v .a) (v .c) in
-        let g = heights a b f in
-        record {
-          room = f .room;
-          high-in = within (high-at a b f);
-          c-at = v .a-at;
-          d-at = v .c-at;
-          b-at = low-at a b f;
-          once = λ z. omega (arith, f .once z, uses-sides z s a b, ap (uses z) (v .is), uses-over z s (n .place) (v .a) (v .c));
-          steep = omega arith;
-          low = omega (arith, f .low, height-sides s a b);
-        }
+      step : Step m s t v (open-high .q) (open-high .a) (open-high .c) (far s a b)
+      step =
+          let i = ap height (open-high .is) in
+          let j = height-over s (open-high .q) (open-high .a) (open-high .c) in
+          let g = heights v e a b f in
+          record {
+            room = f .room;
+            high-in = within (high-at v e a b f);
+            c-at = open-high .a-at;
+            d-at = open-high .c-at;
+            b-at = low-at v e a b f;
+            once = λ z. omega (arith, f .once z, uses-sides z s a b, ap (uses z) (open-high .is), uses-over z s (open-high .q) (open-high .a) (open-high .c));
+            steep = omega arith;
+            low = omega (arith, f .low, height-sides s a b);
+          }
 
-    pub within-inner : Both m t w → Within m (farSeat s (n .place)) × (n .place < 65536)
-    within-inner g =
-        let i = within (open-high (g .0) (g .1) (g .2) .c-at) in
-        (i, omega (arith, i .2, far-half s (n .place)))
+    pub within-inner : Both m t w → Within m (farOf s (n .place)) × (n .place < 65536)
+    within-inner (v, e, a, b, f) =
+        let p = open-high v e a b f in
+        let i = within (p .c-at) in
+        (within-at m (far-is s (p .q) (p .at)) i, omega (arith, p .at, i .2, far-half s (p .q)))
 
-    module _ (m1 : List ℕ) (o1 : Copied (farSeat s (n .place)) (nearSeat s w) m m1) where
-      pub hang-down : Both m t w → Both m1 (farSeat s (n .place)) w × (nodeAt m1 (nearSeat s w) .height < nodeAt m (nearSeat s w) .height)
-      hang-down (a, b, f) =
-          let v = open-high a b f in
-          let i = ap height (v .is) in
-          let j = height-over s (n .place) (v .a) (v .c) in
-          ((_, _, two1 (step a b f) m1 o1), omega (arith, tall (d1 (step a b f) m1 o1), tall (high-at a b f)))
+    module _ (m1 : List ℕ) (o1 : Copied (farOf s (n .place)) (nearOf s w) m m1) where
+      copied : (v : ℕ) (e : w ≡ 8 * v) (a b : Tree) (f : Two m t v a b) → Copied (farSeat s (open-high v e a b f .q)) (nearSeat s v) m m1
+      copied v e a b f = copied-at _ _ (far-is s _ (open-high v e a b f .at)) (near-is s v e) o1
 
-      module _ (m2 : List ℕ) (hangs : Hangs s (farSeat s (n .place)) w m1 m2) where
+      pub hang-down : Both m t w → Both m1 (farOf s (n .place)) w × (nodeAt m1 (nearOf s w) .height < nodeAt m (nearOf s w) .height)
+      hang-down (v, e, a, b, f) =
+          let p = open-high v e a b f in
+          let i = ap height (p .is) in
+          let j = height-over s (p .q) (p .a) (p .c) in
+          let c = copied v e a b f in
+          let h : nodeAt m1 (nearSeat s v) .height < nodeAt m (nearSeat s v) .height = omega (arith, tall (d1 (step v e a b f) m1 c), tall (high-at v e a b f)) in
+          (both-at m1 (far-is s (p .q) (p .at)) (v, e, _, _, two1 (step v e a b f) m1 c), lower-at m1 m (near-is s v e) h)
+
+      module _ (m2 : List ℕ) (hangs : Hangs s (farOf s (n .place)) w m1 m2) where
+        hung-here : (v : ℕ) (e : w ≡ 8 * v) (a b : Tree) (f : Two m t v a b) → Hangs s (farSeat s (open-high v e a b f .q)) (8 * v) m1 m2
+        hung-here v e a b f = hangs-at _ _ s (far-is s _ (open-high v e a b f .at)) e hangs
+
         pub hung-both : Both m t w → Both m2 t (n .place)
-        hung-both (a, b, f) = (_, _, two2 (step a b f) m1 o1 m2 hangs)
+        hung-both (v, e, a, b, f) =
+            let p = open-high v e a b f in
+            (p .q, p .at, _, _, two2 (step v e a b f) m1 (copied v e a b f) m2 (hung-here v e a b f))
 
         pub hang-on : (m3 : List ℕ) → Balances t (n .place) m2 m3 → Hangs s t w m m3
-        hang-on m3 bal a b f =
-            let v = open-high a b f in
-            let g = hung-end (step a b f) m1 o1 m2 hangs m3 bal in
-            let q : height (far s a b) + 1 < height (over s (n .place) (v .a) (v .c)) = omega (arith, heights a b f, ap height (v .is)) in
-            arranged a b m3 (rw (v .is, hang-below s w (n .place) (v .a) (v .c) (far s a b) q) (g .0))
-            (kept-less (g .1) (λ z e. omega (arith, e, uses-sides (z / 2) s a b, ap (uses (z / 2)) (v .is), uses-over (z / 2) s (n .place) (v .a) (v .c))))
-
--- ---- seats as the code has them, by their equations
-pub both-at : (m : List ℕ) {u u′ : ℕ} (w : ℕ) → u ≡ u′ → Both m u′ w → Both m u w
-both-at m w e g = rw e g
-
-pub hangs-at : (m m′ : List ℕ) {u u′ : ℕ} (s : Bool) (w : ℕ) → u ≡ u′ → Hangs s u w m m′ → Hangs s u′ w m m′
-hangs-at m m′ s w e h = rw e at h
+        hang-on m3 bal v e a b f =
+            let p = open-high v e a b f in
+            let g = hung-end (step v e a b f) m1 (copied v e a b f) m2 (hung-here v e a b f) m3 (balances-at _ _ t (p .at) bal) in
+            let q : height (far s a b) + 1 < height (over s (p .q) (p .a) (p .c)) = omega (arith, heights v e a b f, ap height (p .is)) in
+            arranged v e a b f m3 (rw (p .is, hang-below s v (p .q) (p .a) (p .c) (far s a b) q) (g .0))
+            (kept-less (g .1) (λ z u. omega (arith, u, uses-sides (z / 8) s a b, ap (uses (z / 8)) (p .is), uses-over (z / 8) s (p .q) (p .a) (p .c))))

@@ -12,16 +12,16 @@ use Rattle.node.proofs.Seats.{reads-height}
 use Rattle.turning.specs.Turns.{Two}
 use Rattle.joining.specs.Joins.{Hangs, Joins}
 
-module _ (m : List ℕ) (t w : ℕ) (x y : Node) (ex : x ≡ nodeAt m (2 * w)) (ey : y ≡ nodeAt m (2 * w + 1)) (m1 : List ℕ) where
-  heights : (a b : Tree) → Two m t w a b → (x .height ≡ height a) × (y .height ≡ height b)
-  heights a b f = (reads-height m _ x ex (f .first), reads-height m _ y ey (f .second))
+module _ (m : List ℕ) (t w : ℕ) (x y : Node) (ex : x ≡ nodeAt m w) (ey : y ≡ nodeAt m (w + 4)) (m1 : List ℕ) where
+  heights : (v : ℕ) → w ≡ 8 * v → (a b : Tree) → Two m t v a b → (x .height ≡ height a) × (y .height ≡ height b)
+  heights v e a b f = (reads-height m (8 * v) x (rw e at ex) (f .first), reads-height m (8 * v + 4) y (rw e at ey) (f .second))
 
   pub joins-left : y .height ≤ x .height → Hangs true t w m m1 → Joins t w m m1
-  joins-left h hangs a b f =
-      let q : height b ≤ height a = omega (arith, heights a b f) in
-      rw (join-left w a b q) (hangs a b f)
+  joins-left h hangs v e a b f =
+      let q : height b ≤ height a = omega (arith, heights v e a b f) in
+      rw (join-left v a b q) (hangs v e a b f)
 
   pub joins-right : x .height < y .height → Hangs false t w m m1 → Joins t w m m1
-  joins-right h hangs a b f =
-      let q : height a < height b = omega (arith, heights a b f) in
-      rw (join-right w a b q) (hangs a b f)
+  joins-right h hangs v e a b f =
+      let q : height a < height b = omega (arith, heights v e a b f) in
+      rw (join-right v a b q) (hangs v e a b f)

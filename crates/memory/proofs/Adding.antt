@@ -31,14 +31,14 @@ module _ (m0 m : List ℕ) (n : ℕ) (h : List ℕ) (t : Tree) (q : ℕ) (ps : L
   first-is : word m 7 ≡ q
   first-is = P .heads 7 (omega arith) ∙ e
 
-  pub first-in : Within m (2 * word m 7)
+  pub first-in : Within m (8 * word m 7)
   first-in = rw first-is (part-seats m0 m n h t q ps P .0)
 
-  pub taken : (m1 : List ℕ) (r : ℕ) → r ≡ word m 7 → m1 ≡ store m 7 (nodeAt m (2 * r) .place) → (r ≡ q) × Part m0 m1 n (set h 7 (first ps)) t ps
+  pub taken : (m1 : List ℕ) (r : ℕ) → r ≡ word m 7 → m1 ≡ store m 7 (nodeAt m (8 * r) .place) → (r ≡ q) × Part m0 m1 n (set h 7 (first ps)) t ps
   unfolding Spares
   taken m1 r er em =
       let rq = er ∙ first-is in
-      let nx : nodeAt m (2 * r) .place ≡ first ps = ap (λ (x : Node). x .place) (ap (λ (y : ℕ). nodeAt m (2 * y)) rq ∙ P .spare .0) in
+      let nx : nodeAt m (8 * r) .place ≡ first ps = ap (λ (x : Node). x .place) (ap (λ (y : ℕ). nodeAt m (8 * y)) rq ∙ P .spare .0) in
       let Q = part-drop m0 m n h t q ps P in
       (rq, rw (em, nx) (part-put m0 m n h t ps Q 7 (first ps) (omega arith) (omega (arith, part-first m0 m n h t ps Q))))
 
@@ -66,10 +66,10 @@ module _ (m : List ℕ) (s : State) (L : Link m s) (fit : word m 6 ≤ word m 0)
   apart : (z : ℕ) → same z 0 + uses z (s .tree) + (same z Q + among z Z) ≡ below z n
   apart z = rw split at (L .placed .all z)
 
-  pub spare-in : Within m (2 * word m 7)
+  pub spare-in : Within m (8 * word m 7)
   spare-in = first-in m m n (header s) (s .tree) Q Z part-0 refl
 
-  module _ (m1 : List ℕ) (q : ℕ) (eq : q ≡ word m 7) (em : m1 ≡ store m 7 (nodeAt m (2 * q) .place)) (k e : ℕ) where
+  module _ (m1 : List ℕ) (q : ℕ) (eq : q ≡ word m 7) (em : m1 ≡ store m 7 (nodeAt m (8 * q) .place)) (k e : ℕ) where
     step-1 : (q ≡ Q) × Part m m1 n (set (header s) 7 (first Z)) (s .tree) Z
     step-1 = taken m m n (header s) (s .tree) Q Z part-0 refl m1 q eq em
 
@@ -80,7 +80,7 @@ module _ (m : List ℕ) (s : State) (L : Link m s) (fit : word m 6 ≤ word m 0)
           stands = step-1 .1 .stands;
           once = λ z. omega (arith, apart z, below-most z n);
           even = L .even;
-          low = height-few (s .tree) (L .even) (few m s L);
+          low = height-few (s .tree) (L .even) (omega (arith, few m s L));
         })
 
     pub insertable : Insertable m1 rootSeat k e q
@@ -109,7 +109,7 @@ module _ (m : List ℕ) (s : State) (L : Link m s) (fit : word m 6 ≤ word m 0)
         kept-now : kept ≡ size (s .tree)
         kept-now = ek ∙ step-2 .heads 6 (omega arith)
 
-        pub kept-low : kept ≤ 32768
+        pub kept-low : kept ≤ 8192
         kept-low = omega (arith, kept-now, few m s L)
 
         pub added : (m3 : List ℕ) → m3 ≡ store m2 6 (kept + 1) → After m m3 (add s k e)

@@ -70,7 +70,7 @@ module _ (m : List ℕ) (s : State) (k q : ℕ) (m1 : List ℕ) (R : Removal q m
               at (suc y) e = omega arith
 
   module _ (kept room : ℕ) (ek : kept ≡ word m1 6) (er : room ≡ word m1 0) where
-    pub counts : (kept ≤ room + 1) × (room ≤ 32768) × (2 ≤ kept)
+    pub counts : (kept ≤ room + 1) × (room ≤ 8192) × (2 ≤ kept)
     counts = omega (arith, L .placed .many, L .holds .small, words, R .two)
 
     abbrev K : ℕ
@@ -79,7 +79,7 @@ module _ (m : List ℕ) (s : State) (k q : ℕ) (m1 : List ℕ) (R : Removal q m
     spare-is : K ≡ length (s .spares)
     spare-is = omega (arith, L .placed .many, words)
 
-    pub give : (Within m1 (2 * q)) × (Within m1 (2 * q + 1)) × (word m1 7 < 65536)
+    pub give : (Within m1 (8 * q)) × (Within m1 (8 * q + 4)) × (word m1 7 < 65536)
     give =
         let i = give-in m m1 n (header s) T (s .spares) part-1 q (place-in .0) (place-in .1) in
         (i .0, i .1, omega (arith, part-1 .heads 7 (omega arith), part-first m m1 n (header s) T (s .spares) part-1))

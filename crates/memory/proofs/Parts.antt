@@ -3,8 +3,8 @@
 use mathlib.Core.Path.{_≡_, refl, sym, ap, _∙_}
 use mathlib.Core.Logic.{inl, inr}
 use mathlib.Core.List.{List, [], _∷_}
-use Prim.Native.Nat.{ℕ, zero, suc, _+_, _*_, _/_, _^_, _≤_, _<_}
-use native.Mathlib.Decide.{ℕ-discrete}
+use Prim.Native.Nat.{ℕ, zero, suc, _+_, _*_, _/_, _%_, _^_, _≤_, _<_}
+use native.Mathlib.Decide.{ℕ-discrete, decLt}
 use native.Mathlib.Omega.{arith}
 use lib.ListN.{length, getD, set, length-set}
 use lib.Seq.{getD-set-same, getD-set-other}
@@ -46,19 +46,21 @@ pub below-in : (z n : ℕ) → 1 ≤ below z n → z < n
 below-in z n h = elim (case-lt z n) [ inl y ↦ y .0 | inr y ↦ absurd (omega (arith, below-out z n (y .0))) ]
 
 -- ---- a word of the header is in no node
-pub node-store : (m : List ℕ) (i v z : ℕ) → i < 28 → 1 ≤ z → nodeAt (store m i v) z ≡ nodeAt m z
+pub node-store : (m : List ℕ) (i v z : ℕ) → i < 28 → 4 ≤ z → nodeAt (store m i v) z ≡ nodeAt m z
 unfolding nodeAt
 node-store m i v z h o =
     let e : (j : ℕ) → base z ≤ j → word (store m i v) j ≡ word m j = λ j l. word-other m i v j (omega arith) in
     rw (e (base z) (omega arith), e (base z + 1) (omega arith), e (base z + 2) (omega arith), e (base z + 3) (omega arith))
 
 pub stands-store : (t : Tree) (m : List ℕ) (s i v : ℕ) → i < 28 → Stands m s t → Stands (store m i v) s t
-stands-store t m s i v h r = stands-nodes (length-store m i v) (node-store m i v s h (within r .1)) (λ z u. node-store m i v z h (some z u)) r
+stands-store t m s i v h r = stands-nodes (length-store m i v) (node-store m i v s h (within r .1)) (λ z b u. node-store m i v z h (some z u)) r
   where
     -- the place 0 is no node's
-    some : (z : ℕ) → 1 ≤ uses (z / 2) t → 1 ≤ z
-    some zero u = absurd (omega (arith, u, stands-apart t m s r))
-    some (suc z) u = omega arith
+    some : (z : ℕ) → 1 ≤ uses (z / 8) t → 4 ≤ z
+    some z u = elim (decLt z 8) [
+      | yes l ↦ let e : z / 8 ≡ 0 = omega arith in absurd (omega (arith, rw e at u, stands-apart t m s r))
+      | no l ↦ omega arith
+    ]
 
 -- the header with one word put
 pub heads-put : (m h : List ℕ) (i v : ℕ) → 224 ≤ length m → length h ≡ headerWords → i < 28 → v < 2 ^ 64 → Heads m h → Heads (store m i v) (set h i v)
@@ -68,35 +70,35 @@ heads-put m h i v long wide li lv f j l = elim (ℕ-discrete j i) [
 ]
 
 -- spare places that stay
-pub spares-frame : (ps m m′ : List ℕ) → ((z : ℕ) → 1 ≤ among (z / 2) ps → nodeAt m′ z ≡ nodeAt m z) → Spares m ps → Spares m′ ps
+pub spares-frame : (ps m m′ : List ℕ) → ((z : ℕ) → z % 4 ≡ 0 → 1 ≤ among (z / 8) ps → nodeAt m′ z ≡ nodeAt m z) → Spares m ps → Spares m′ ps
 unfolding Spares
 spares-frame [] m m′ f s = tt
 spares-frame (p ∷ ps) m m′ f s =
-    let l : (2 * p) / 2 ≡ p = omega arith in
-    let r : (2 * p + 1) / 2 ≡ p = omega arith in (
-      f (2 * p) (rw l (omega (arith, same-self p))) ∙ s .0,
-      f (2 * p + 1) (rw r (omega (arith, same-self p))) ∙ s .1,
-      spares-frame ps m m′ (λ z h. f z (omega arith)) (s .2),
+    let l : (8 * p) / 8 ≡ p = omega arith in
+    let r : (8 * p + 4) / 8 ≡ p = omega arith in (
+      f (8 * p) (omega arith) (rw l (omega (arith, same-self p))) ∙ s .0,
+      f (8 * p + 4) (omega arith) (rw r (omega (arith, same-self p))) ∙ s .1,
+      spares-frame ps m m′ (λ z b h. f z b (omega arith)) (s .2),
     )
 
 -- a spare place's left node, read at the seat that the code worked out
-pub spare-read : (m : List ℕ) (p : ℕ) {u : ℕ} {n : Node} → u ≡ 2 * p → n ≡ nodeAt m u → n .place ≡ nodeAt m (2 * p) .place
+pub spare-read : (m : List ℕ) (p : ℕ) {u : ℕ} {n : Node} → u ≡ 8 * p → n ≡ nodeAt m u → n .place ≡ nodeAt m (8 * p) .place
 spare-read m p e r = ap (λ (y : Node). y .place) (rw e at r)
 
 -- a place given, seat by seat: first the word of the header, then its two nodes
-pub gives : (m m1 m2 m3 : List ℕ) (p k : ℕ) {next u v : ℕ} {n : Node} → m1 ≡ store m 7 p → next ≡ word m 7 → u ≡ 2 * p → v ≡ 2 * p + 1
+pub gives : (m m1 m2 m3 : List ℕ) (p k : ℕ) {next u v : ℕ} {n : Node} → m1 ≡ store m 7 p → next ≡ word m 7 → u ≡ 8 * p → v ≡ 8 * p + 4
     → Saved u (spareNode k next) m1 m2 → n ≡ leafNode 0 0 → Saved v n m2 m3 → Gives p k m m3
 gives m m1 m2 m3 p k em en eu ev f el g =
-    let F : Saved (2 * p) (spareNode k (word m 7)) (store m 7 p) m2 = rw (em, en, eu) at f in
-    let G : Saved (2 * p + 1) (leafNode 0 0) m2 m3 = rw (el, ev) at g in
+    let F : Saved (8 * p) (spareNode k (word m 7)) (store m 7 p) m2 = rw (em, en, eu) at f in
+    let G : Saved (8 * p + 4) (leafNode 0 0) m2 m3 = rw (el, ev) at g in
     record {
-      left = node-kept _ m2 m3 (G .kept) (2 * p) (same-other (2 * p) (2 * p + 1) (λ e. omega arith)) ∙ F .at;
+      left = node-kept _ m2 m3 (G .kept) (8 * p) (omega arith) (same-other (8 * p) (8 * p + 4) (λ e. omega arith)) ∙ F .at;
       right = G .at;
-      kept = kept-then (F .kept) (G .kept) (λ z h. (off z (2 * p) h (omega arith), off z (2 * p + 1) h (omega arith)));
+      kept = kept-then (F .kept) (G .kept) (λ z h. (off z (8 * p) h (omega arith), off z (8 * p + 4) h (omega arith)));
     }
   where
-    off : (z u : ℕ) → same (z / 2) p ≡ 0 → u / 2 ≡ p → same z u ≡ 0
-    off z u h q = same-other z u (λ e. same-none (z / 2) p h (ap (λ (y : ℕ). y / 2) e ∙ q))
+    off : (z u : ℕ) → same (z / 8) p ≡ 0 → u / 8 ≡ p → same z u ≡ 0
+    off z u h q = same-other z u (λ e. same-none (z / 8) p h (ap (λ (y : ℕ). y / 8) e ∙ q))
 
 -- ---- past the n places
 pub past-none : (n : ℕ) (m : List ℕ) → Past n m m
@@ -108,12 +110,12 @@ past-then f g = record { len = g .len ∙ f .len; byte = λ b h. g .byte b h ∙
 pub past-store : (m : List ℕ) (i v n : ℕ) → i < 28 → 1 ≤ n → Past (bytesFor n) m (store m i v)
 past-store m i v n h o = record { len = length-store m i v; byte = λ b l. byte-other m i v b (inr (omega arith)) }
 
-pub past-kept : (k : ℕ → ℕ) (m m′ : List ℕ) (n : ℕ) → Kept k m m′ → ((z : ℕ) → 2 * n ≤ z → k z ≡ 0) → Past (bytesFor n) m m′
+pub past-kept : (k : ℕ → ℕ) (m m′ : List ℕ) (n : ℕ) → Kept k m m′ → ((z : ℕ) → 8 * n ≤ z → k z ≡ 0) → Past (bytesFor n) m m′
 past-kept k m m′ n f h = record { len = f .len; byte = λ b l. f .byte b (inr (h (seatOf b) (omega arith))) }
 
 -- a seat at a place where nothing was written, and not the root's
-off-seat : (u : ℕ → ℕ) (z : ℕ) → same (z / 2) 0 + u (z / 2) ≡ 0 → same z 1 + u (z / 2) ≡ 0
-off-seat u z h = omega (arith, h, same-other z 1 (λ e. same-none (z / 2) 0 (omega (arith, h)) (omega arith)))
+off-seat : (u : ℕ → ℕ) (z : ℕ) → same (z / 8) 0 + u (z / 8) ≡ 0 → same z 4 + u (z / 8) ≡ 0
+off-seat u z h = omega (arith, h, same-other z 4 (λ e. same-none (z / 8) 0 (omega (arith, h)) (omega arith)))
 
 module _ (m0 m : List ℕ) (n : ℕ) (h : List ℕ) (t : Tree) where
   -- a spare place is one of the link's, and not the root's; its seats are inside
@@ -121,7 +123,7 @@ module _ (m0 m : List ℕ) (n : ℕ) (h : List ℕ) (t : Tree) where
   part-in zero ps P = absurd (omega (arith, P .once 0, same-self 0, below-most 0 n))
   part-in (suc p) ps P = (omega arith, below-in (suc p) n (omega (arith, P .once (suc p), same-self (suc p))))
 
-  pub part-seats : (p : ℕ) (ps : List ℕ) → Part m0 m n h t (p ∷ ps) → Within m (2 * p) × Within m (2 * p + 1)
+  pub part-seats : (p : ℕ) (ps : List ℕ) → Part m0 m n h t (p ∷ ps) → Within m (8 * p) × Within m (8 * p + 4)
   part-seats p ps P = let i = part-in p ps P in (omega (arith, P .small, P .long), omega (arith, P .small, P .long))
 
   pub part-drop : (p : ℕ) (ps : List ℕ) → Part m0 m n h t (p ∷ ps) → Part m0 m n h t ps
@@ -129,7 +131,7 @@ module _ (m0 m : List ℕ) (n : ℕ) (h : List ℕ) (t : Tree) where
   part-drop p ps P =
       record { small = P .small; long = P .long; wide = P .wide; heads = P .heads; stands = P .stands; spare = P .spare .2; once = λ z. omega (arith, P .once z); past = P .past }
 
-  pub part-first : (ps : List ℕ) → Part m0 m n h t ps → first ps < 32768
+  pub part-first : (ps : List ℕ) → Part m0 m n h t ps → first ps < 8192
   part-first [] P = omega arith
   part-first (p ∷ ps) P = omega (arith, part-in p ps P, P .small)
 
@@ -147,17 +149,19 @@ module _ (m0 m : List ℕ) (n : ℕ) (h : List ℕ) (t : Tree) where
           wide = length-set h i v ∙ P .wide;
           heads = heads-put m h i v (omega (arith, P .long, part-some)) (P .wide) li lv (P .heads);
           stands = stands-store t m rootSeat i v li (P .stands);
-          spare = spares-frame ps m (store m i v) (λ z u. node-store m i v z li (some z u)) (P .spare);
+          spare = spares-frame ps m (store m i v) (λ z b u. node-store m i v z li (some z u)) (P .spare);
           once = P .once;
           past = past-then (P .past) (past-store m i v n li part-some);
         }
       where
-        some : (z : ℕ) → 1 ≤ among (z / 2) ps → 1 ≤ z
-        some zero u = absurd (omega (arith, u, P .once 0, same-self 0, below-most 0 n))
-        some (suc z) u = omega arith
+        some : (z : ℕ) → 1 ≤ among (z / 8) ps → 4 ≤ z
+        some z u = elim (decLt z 8) [
+          | yes l ↦ let e : z / 8 ≡ 0 = omega arith in absurd (omega (arith, rw e at u, P .once 0, same-self 0, below-most 0 n))
+          | no l ↦ omega arith
+        ]
 
     -- another tree, for which only the root's seat and places of the link that are not spare were written
-    pub part-tree : (u : ℕ → ℕ) (m′ : List ℕ) (t′ : Tree) → Kept (λ z. same z rootSeat + u (z / 2)) m m′ → Stands m′ rootSeat t′
+    pub part-tree : (u : ℕ → ℕ) (m′ : List ℕ) (t′ : Tree) → Kept (λ z. same z rootSeat + u (z / 8)) m m′ → Stands m′ rootSeat t′
         → ((z : ℕ) → same z 0 + u z + among z ps ≤ below z n) → ((z : ℕ) → same z 0 + uses z t′ + among z ps ≤ below z n) → Part m0 m′ n h t′ ps
     part-tree u m′ t′ f r g o =
         record {
@@ -166,14 +170,14 @@ module _ (m0 m : List ℕ) (n : ℕ) (h : List ℕ) (t : Tree) where
           wide = P .wide;
           heads = λ j l. word-kept _ m m′ f j l ∙ P .heads j l;
           stands = r;
-          spare = spares-frame ps m m′ (λ z a. node-kept _ m m′ f z (off-seat u z (omega (arith, g (z / 2), below-most (z / 2) n)))) (P .spare);
+          spare = spares-frame ps m m′ (λ z b a. node-kept _ m m′ f z b (off-seat u z (omega (arith, g (z / 8), below-most (z / 8) n)))) (P .spare);
           once = o;
-          past = past-then (P .past) (past-kept _ m m′ n f (λ z l. off-seat u z (omega (arith, g (z / 2), below-out (z / 2) n (omega arith)))));
+          past = past-then (P .past) (past-kept _ m m′ n f (λ z l. off-seat u z (omega (arith, g (z / 8), below-out (z / 8) n (omega arith)))));
         }
 
     -- one spare place more
     module _ (p : ℕ) (lo : 1 ≤ p) (hi : p < n) where
-      pub give-in : Within m (2 * p) × Within m (2 * p + 1)
+      pub give-in : Within m (8 * p) × Within m (8 * p + 4)
       give-in = (omega (arith, P .small, P .long), omega (arith, P .small, P .long))
 
       pub part-give : (m′ : List ℕ) (k : ℕ) → k ≡ length ps → getD h 7 0 ≡ first ps → uses p t + among p ps ≡ 0 → Gives p k m m′ → Part m0 m′ n (set h 7 p) t (p ∷ ps)
@@ -183,19 +187,19 @@ module _ (m0 m : List ℕ) (n : ℕ) (h : List ℕ) (t : Tree) where
           let Q = part-put 7 p (omega arith) (omega (arith, P .small)) in
           let w : word m 7 ≡ first ps = P .heads 7 (omega arith) ∙ e7 in
           let off : (z : ℕ) → 1 ≤ uses z t + among z ps → same z p ≡ 0 = λ z u. same-other z p (λ e. omega (arith, ap (λ (y : ℕ). uses y t + among y ps) e)) in
-          let root : same (1 / 2) p ≡ 0 = same-other 0 p (omega arith) in
+          let root : same (4 / 8) p ≡ 0 = same-other 0 p (omega arith) in
           record {
             small = P .small;
             long = omega (arith, Q .long, g .kept .len);
             wide = Q .wide;
             heads = λ j l. word-kept _ M m′ (g .kept) j l ∙ Q .heads j l;
-            stands = stands-frame (g .kept) root (λ z u. off (z / 2) (omega arith)) (Q .stands);
-            spare = (rw (ek, w) at (g .left), g .right, spares-frame ps M m′ (λ z u. node-kept _ M m′ (g .kept) z (off (z / 2) (omega arith))) (Q .spare));
+            stands = stands-frame (g .kept) root (λ z u. off (z / 8) (omega arith)) (Q .stands);
+            spare = (rw (ek, w) at (g .left), g .right, spares-frame ps M m′ (λ z b u. node-kept _ M m′ (g .kept) z b (off (z / 8) (omega arith))) (Q .spare));
             once = λ z. elim (ℕ-discrete z p) [
               | yes e ↦ rw e (omega (arith, free, same-self p, below-is p n hi, same-other p 0 (omega arith)))
               | no d ↦ omega (arith, P .once z, same-other z p d)
             ];
-            past = past-then (Q .past) (past-kept _ M m′ n (g .kept) (λ z l. same-other (z / 2) p (omega arith)));
+            past = past-then (Q .past) (past-kept _ M m′ n (g .kept) (λ z l. same-other (z / 8) p (omega arith)));
           }
 
 -- ---- the delays, padded

@@ -2,7 +2,7 @@
 -- the need. `Bytes m` is what lent memory always is.
 use mathlib.Core.Path.{_≡_, refl, sym, ap, _∙_}
 use mathlib.Core.List.{List, [], _∷_}
-use Prim.Native.Nat.{ℕ, suc, _+_, _*_, _/_, _≤_, _<_}
+use Prim.Native.Nat.{ℕ, suc, _+_, _*_, _/_, _%_, _≤_, _<_}
 use native.Mathlib.Decide.{decLt}
 use native.Mathlib.Omega.{arith}
 use lib.ListN.{length, getD}
@@ -28,7 +28,7 @@ spares-one [] [] m e f s s′ = refl
 spares-one [] (q ∷ qs) m e f s s′ = absurd (omega arith)
 spares-one (p ∷ ps) [] m e f s s′ = absurd (omega arith)
 spares-one (p ∷ ps) (q ∷ qs) m e f s s′ =
-    let g : first ps ≡ first qs = ap (λ (n : Node). n .place) (sym (s .0) ∙ ap (λ (y : ℕ). nodeAt m (2 * y)) f ∙ s′ .0) in
+    let g : first ps ≡ first qs = ap (λ (n : Node). n .place) (sym (s .0) ∙ ap (λ (y : ℕ). nodeAt m (8 * y)) f ∙ s′ .0) in
     let i : ps ≡ qs = spares-one ps qs m (omega arith) g (s .2) (s′ .2) in
     rw (f, i)
 
@@ -58,26 +58,26 @@ module _ (m : List ℕ) (s s′ : State) (H : Holds m s) (p : Placed s) (H′ : 
   one-link = whole s ∙ (rw (heads 0 (omega arith), heads 1 (omega arith), heads 3 (omega arith), heads 4 (omega arith), delays, tree, spares))
 
 -- ---- the bytes of a memory
-spares-same : (ps m m′ : List ℕ) (z : ℕ) → Spares m ps → Spares m′ ps → 1 ≤ among (z / 2) ps → nodeAt m z ≡ nodeAt m′ z
+spares-same : (ps m m′ : List ℕ) (z : ℕ) → z % 4 ≡ 0 → Spares m ps → Spares m′ ps → 1 ≤ among (z / 8) ps → nodeAt m z ≡ nodeAt m′ z
 unfolding Spares
-spares-same [] m m′ z s s′ h = absurd (omega arith)
-spares-same (p ∷ ps) m m′ z s s′ h = elim (decLt 0 (among (z / 2) ps)) [
-  | yes y ↦ spares-same ps m m′ z (s .2) (s′ .2) y
-  | no y ↦ let g : z / 2 ≡ p = same-is (z / 2) p (omega arith) in elim (decLt (2 * p) z) [
-    | yes l ↦ let e : z ≡ 2 * p + 1 = omega arith in rw e (s .1 ∙ sym (s′ .1))
-    | no l ↦ let e : z ≡ 2 * p = omega arith in rw e (s .0 ∙ sym (s′ .0))
+spares-same [] m m′ z v s s′ h = absurd (omega arith)
+spares-same (p ∷ ps) m m′ z v s s′ h = elim (decLt 0 (among (z / 8) ps)) [
+  | yes y ↦ spares-same ps m m′ z v (s .2) (s′ .2) y
+  | no y ↦ let g : z / 8 ≡ p = same-is (z / 8) p (omega arith) in elim (decLt (8 * p) z) [
+    | yes l ↦ let e : z ≡ 8 * p + 4 = omega arith in rw e (s .1 ∙ sym (s′ .1))
+    | no l ↦ let e : z ≡ 8 * p = omega arith in rw e (s .0 ∙ sym (s′ .0))
   ]
 ]
 
 -- two memories that hold one state, and agree past its need, are equal
 module _ (m m′ : List ℕ) (s : State) (p : Placed s) (x : Bytes m) (y : Bytes m′) (H : Holds m s) (H′ : Holds m′ s) where
-  node-same : (z : ℕ) → 1 ≤ z → z / 2 < places (s .settings .room) → nodeAt m z ≡ nodeAt m′ z
-  node-same z o l = elim (decLt z 2) [
+  node-same : (z : ℕ) → z % 4 ≡ 0 → 4 ≤ z → z / 8 < places (s .settings .room) → nodeAt m z ≡ nodeAt m′ z
+  node-same z v o l = elim (decLt z 8) [
     | yes r ↦ let e : z ≡ rootSeat = omega arith in rw e (own-same (s .tree) m m′ rootSeat (H .stands) (H′ .stands))
-    | no r ↦ elim (decLt 0 (uses (z / 2) (s .tree))) [
-      | yes u ↦ stands-same (s .tree) m m′ rootSeat z (H .stands) (H′ .stands) u
-      | no u ↦ spares-same (s .spares) m m′ z (H .spare) (H′ .spare)
-          (omega (arith, p .all (z / 2), below-is (z / 2) (places (s .settings .room)) l, same-other (z / 2) 0 (omega arith)))
+    | no r ↦ elim (decLt 0 (uses (z / 8) (s .tree))) [
+      | yes u ↦ stands-same (s .tree) m m′ rootSeat z v (H .stands) (H′ .stands) u
+      | no u ↦ spares-same (s .spares) m m′ z v (H .spare) (H′ .spare)
+          (omega (arith, p .all (z / 8), below-is (z / 8) (places (s .settings .room)) l, same-other (z / 8) 0 (omega arith)))
     ]
   ]
 
@@ -86,7 +86,7 @@ module _ (m m′ : List ℕ) (s : State) (p : Placed s) (x : Bytes m) (y : Bytes
       ext-getD 0 m m′ (sym (f .len)) (λ b l. elim (decLt b 224) [
         | yes h ↦ word-bytes m m′ x y b (H .heads (b / 8) (omega arith) ∙ sym (H′ .heads (b / 8) (omega arith)))
         | no h ↦ elim (decLt b (need (s .settings .room))) [
-          | yes u ↦ node-bytes m m′ x y b (omega arith) (node-same (seatOf b) (omega arith) (omega arith))
+          | yes u ↦ node-bytes m m′ x y b (omega arith) (node-same (seatOf b) (omega arith) (omega arith) (omega arith))
           | no u ↦ sym (f .byte b (omega arith))
         ]
       ])

@@ -22,7 +22,7 @@ use Rattle.shape.specs.SizeLaws.{size-set}
 
 module _ (m : List ℕ) (s : State) (L : Link m s) where
   -- no link has more voids than this
-  pub few : size (s .tree) ≤ 32768
+  pub few : size (s .tree) ≤ 8192
   few = omega (arith, L .placed .many, L .holds .small)
 
   -- the words of the room and of the voids kept
@@ -38,7 +38,7 @@ module _ (m : List ℕ) (s : State) (L : Link m s) where
         stands = L .holds .stands;
         once = λ z. omega (arith, L .placed .all z, below-most z (places (s .settings .room)));
         even = L .even;
-        low = height-few (s .tree) (L .even) few;
+        low = height-few (s .tree) (L .even) (omega (arith, few));
       }
 
   pub alone : Alone m rootSeat

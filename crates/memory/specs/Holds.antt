@@ -6,7 +6,7 @@ use lib.ListN.{length, getD}
 use Rattle.node.specs.declared.Node.{Node}
 use Rattle.numbers.specs.Words.{word, store}
 use Rattle.shape.specs.Tree.{same}
-use Rattle.node.specs.Layout.{rootSeat, nodeAt, leafNode, Kept}
+use Rattle.node.specs.Layout.{rootSeat, nodeAt, leafNode, Kept, mostPlaces}
 use Rattle.node.specs.Rep.{Stands}
 use Rattle.state.specs.State.{State, first, places}
 use Rattle.state.specs.Sound.{Sound}
@@ -23,17 +23,17 @@ spareNode k p = record { height = spareMark; lo = 0; top = 0; low = k; place = p
 -- the spare places, one after the other
 unfoldable pub Spares : List ℕ → List ℕ → Type 0
 Spares m [] = Unit {0}
-Spares m (p ∷ ps) = (nodeAt m (2 * p) ≡ spareNode (length ps) (first ps)) × (nodeAt m (2 * p + 1) ≡ leafNode 0 0) × Spares m ps
+Spares m (p ∷ ps) = (nodeAt m (8 * p) ≡ spareNode (length ps) (first ps)) × (nodeAt m (8 * p + 4) ≡ leafNode 0 0) × Spares m ps
 
 -- m′ is m with the place p in front of the k spare ones
 pub record Gives (p k : ℕ) (m m′ : List ℕ) : Type 0 where
-  pub left : nodeAt m′ (2 * p) ≡ spareNode k (word m 7)
-  pub right : nodeAt m′ (2 * p + 1) ≡ leafNode 0 0
-  pub kept : Kept (λ z. same (z / 2) p) (store m 7 p) m′
+  pub left : nodeAt m′ (8 * p) ≡ spareNode k (word m 7)
+  pub right : nodeAt m′ (8 * p + 4) ≡ leafNode 0 0
+  pub kept : Kept (λ z. same (z / 8) p) (store m 7 p) m′
 
 -- the memory holds the state
 pub record Holds (m : List ℕ) (s : State) : Type 0 where
-  pub small : places (s .settings .room) ≤ 32768
+  pub small : places (s .settings .room) ≤ mostPlaces
   pub lines : length (s .settings .delays) ≤ 16
   pub long : need (s .settings .room) ≤ length m
   pub heads : Heads m (header s)

@@ -5,14 +5,14 @@ use mathlib.Core.List.{List}
 use Prim.Native.Nat.{ℕ, _+_, _≤_}
 use lib.ListN.{length}
 use Rattle.shape.specs.Tree.{Tree, same, uses}
-use Rattle.node.specs.Layout.{headerWords, rootSeat, bytesFor}
+use Rattle.node.specs.Layout.{headerWords, rootSeat, bytesFor, mostPlaces}
 use Rattle.node.specs.Rep.{Stands}
 use Rattle.state.specs.Sound.{among, below}
 use Rattle.memory.specs.Header.{Heads}
 use Rattle.memory.specs.Holds.{Spares, Past}
 
 pub record Part (m0 m : List ℕ) (n : ℕ) (h : List ℕ) (t : Tree) (ps : List ℕ) : Type 0 where
-  pub small : n ≤ 32768
+  pub small : n ≤ mostPlaces
   pub long : bytesFor n ≤ length m
   pub wide : length h ≡ headerWords
   pub heads : Heads m h

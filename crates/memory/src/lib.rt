@@ -8,6 +8,7 @@ ghost use Rattle.node.specs.Layout.{Within, nodeAt};
 ghost use Rattle.memory.specs.Header.{need};
 ghost use Rattle.memory.specs.Holds.{Gives};
 ghost use Rattle.memory.specs.Steps.{Some, Noted, Roomy, Led, Several, CutOut, GivesBack, Shortens, Adds, Drops, Refloors};
+use node::PLACE_WORDS;
 use node::far;
 use node::near;
 use numbers::words::get;
@@ -38,18 +39,18 @@ pub const SPARE_MARK: u64 = 2147483648;
 
 // Takes the first spare place off the list.
 fn take_spare(mem: &mut [u8]) -> u64
-    requires { ⌜ Within (now mem) (2 * word (now mem) 7) ⌝ }
-    ensures { λ p. ⌜ (p ≡ word (now (mem .entry)) 7) × (now (mem .exit) ≡ store (now (mem .entry)) 7 (nodeAt (now (mem .entry)) (2 * p) .place)) ⌝ }
+    requires { ⌜ Within (now mem) (8 * word (now mem) 7) ⌝ }
+    ensures { λ p. ⌜ (p ≡ word (now (mem .entry)) 7) × (now (mem .exit) ≡ store (now (mem .entry)) 7 (nodeAt (now (mem .entry)) (8 * p) .place)) ⌝ }
 {
     let p = get(mem, SPARE);
-    let n = node::load(mem, near(true, p));
+    let n = node::load(mem, near(true, PLACE_WORDS * p));
     put(mem, SPARE, n.place);
     p
 }
 
 // Puts a place in front of the k spare ones.
 pub fn give_spare(mem: &mut [u8], p: u64, k: u64)
-    requires { ⌜ (Within (now mem) (2 * p)) × (Within (now mem) (2 * p + 1)) × (word (now mem) 7 < 65536) ⌝ }
+    requires { ⌜ (Within (now mem) (8 * p)) × (Within (now mem) (8 * p + 4)) × (word (now mem) 7 < 65536) ⌝ }
     ensures { λ _. ⌜ Gives p k (now (mem .entry)) (now (mem .exit)) ⌝ }
 {
     let next = get(mem, SPARE);
@@ -61,8 +62,8 @@ pub fn give_spare(mem: &mut [u8], p: u64, k: u64)
         low: k,
         place: next,
     };
-    node::save(mem, near(true, p), n);
-    node::save(mem, far(true, p), node::leaf(0, 0));
+    node::save(mem, near(true, PLACE_WORDS * p), n);
+    node::save(mem, far(true, PLACE_WORDS * p), node::leaf(0, 0));
 }
 
 // Another end for the void of the key, to which the way noted leads, at least in part.

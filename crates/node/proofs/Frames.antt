@@ -3,7 +3,7 @@
 use mathlib.Core.Path.{_≡_, refl, _∙_}
 use mathlib.Core.Logic.{_⊎_, inl, inr}
 use mathlib.Core.List.{List}
-use Prim.Native.Nat.{ℕ, _+_, _-_, _≤_, _<_}
+use Prim.Native.Nat.{ℕ, _+_, _-_, _%_, _≤_, _<_}
 use native.Mathlib.Omega.{arith}
 use lib.ListN.{getD}
 use Rattle.numbers.specs.Words.{word}
@@ -35,15 +35,15 @@ module _ (n : ℕ → ℕ) (m m′ : List ℕ) (f : Kept n m m′) where
   word-kept j h = word-cong m′ m j (λ b p q. f .byte b (inl (omega arith)))
 
   -- a word of the node at z
-  at-seat : (z j : ℕ) → n z ≡ 0 → base z ≤ j → j < base z + 4 → word m′ j ≡ word m j
-  at-seat z j h u v =
+  at-seat : (z j : ℕ) → z % 4 ≡ 0 → n z ≡ 0 → base z ≤ j → j < base z + 4 → word m′ j ≡ word m j
+  at-seat z j a h u v =
       word-cong m′ m j (λ b p q. let e : seatOf b ≡ z = omega arith in f .byte b (inr (rw e h)))
 
   -- a node
-  pub node-kept : (z : ℕ) → n z ≡ 0 → nodeAt m′ z ≡ nodeAt m z
+  pub node-kept : (z : ℕ) → z % 4 ≡ 0 → n z ≡ 0 → nodeAt m′ z ≡ nodeAt m z
   unfolding nodeAt
-  node-kept z h =
-      let e : (j : ℕ) → base z ≤ j → j < base z + 4 → word m′ j ≡ word m j = λ j. at-seat z j h in
+  node-kept z a h =
+      let e : (j : ℕ) → base z ≤ j → j < base z + 4 → word m′ j ≡ word m j = λ j. at-seat z j a h in
       rw (e (base z) (omega arith) (omega arith), e (base z + 1) (omega arith) (omega arith), e (base z + 2) (omega arith) (omega arith), e (base z + 3) (omega arith) (omega arith))
 
   pub within-kept : (s : ℕ) → Within m s → Within m′ s

@@ -21,9 +21,9 @@ pub record Words (n : Node) : Type 0 where
   pub low : n .low < 2 ^ 64
 
 -- a byte that is not the node's is outside its four words
-off : (p b : ℕ) → 1 ≤ p → (b < 224) ⊎ (same (seatOf b) p ≡ 0) → (b < 8 * base p) ⊎ (8 * base p + 32 ≤ b)
-off p b o (inl h) = inl (omega arith)
-off p b o (inr h) =
+off : (p b : ℕ) → 4 ≤ p → p % 4 ≡ 0 → (b < 224) ⊎ (same (seatOf b) p ≡ 0) → (b < 8 * base p) ⊎ (8 * base p + 32 ≤ b)
+off p b o a (inl h) = inl (omega arith)
+off p b o a (inr h) =
     let u : seatOf b ≢ p = same-none (seatOf b) p h in
     elim (decLt b (8 * base p)) [ yes l ↦ inl l | no l ↦ inr (omega arith) ]
 
@@ -73,7 +73,7 @@ length-sums m p n = simp length-store
 
 pub sums-written : (m : List ℕ) (p : ℕ) (n : Node) → Within m p → Words n → Saved p (withSums n (nodeAt m p)) m (sumsSaved m p n)
 sums-written m p n i w =
-    record { at = node-sums m p n i w; kept = record { len = length-sums m p n; byte = λ b h. byte-sums m p n b (off p b (i .1) h) } }
+    record { at = node-sums m p n i w; kept = record { len = length-sums m p n; byte = λ b h. byte-sums m p n b (off p b (i .1) (i .3) h) } }
 
 -- ---- and the fourth: height and place
 module _ (m : List ℕ) (p : ℕ) (n : Node) (i : Within m p) (f : Fits n) (w : Words n) where
@@ -112,7 +112,7 @@ module _ (m : List ℕ) (p : ℕ) (n : Node) (i : Within m p) (f : Fits n) (w : 
   saved-saved : Saved p n m (saved m p n)
   unfolding saved
   saved-saved =
-      record { at = node-saved; kept = record { len = length-store M (base p + 3) (linksOf n) ∙ length-sums m p n; byte = λ b h. byte-saved b (off p b (i .1) h) } }
+      record { at = node-saved; kept = record { len = length-store M (base p + 3) (linksOf n) ∙ length-sums m p n; byte = λ b h. byte-saved b (off p b (i .1) (i .3) h) } }
 
 pub saved-of : (m m1 m2 : List ℕ) (p : ℕ) (n : Node) → m1 ≡ sumsSaved m p n → m2 ≡ store m1 (base p + 3) (linksOf n) → Within m p → Fits n → Words n → Saved p n m m2
 unfolding saved
@@ -129,7 +129,7 @@ copied-of m m1 m2 s s′ links n el et ew ek k w e1 e2 i =
     saved-of m m1 m2 s′ (nodeAt m s) (rw (← el, ← et, ← ew) e1) (rw (← o) e2) i f v
 
 -- ---- a node over two others
-pub mended : (m m′ : List ℕ) (p q : ℕ) (x y n : Node) → x ≡ nodeAt m (2 * q) → y ≡ nodeAt m (2 * q + 1) → n ≡ overNode x y q → Saved p n m m′ → Over p q m m′
+pub mended : (m m′ : List ℕ) (p q : ℕ) (x y n : Node) → x ≡ nodeAt m q → y ≡ nodeAt m (q + 4) → n ≡ overNode x y q → Saved p n m m′ → Over p q m m′
 mended m m′ p q x y n ex ey en s = rw (← ex, ← ey, ← en) s
 
 pub below-by : {x y : Node} {h : ℕ} → x ≡ y → y .height < h → x .height < h

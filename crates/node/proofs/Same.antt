@@ -59,31 +59,31 @@ node-bytes m m′ x y b h e =
 pub own-same : (t : Tree) (m m′ : List ℕ) (s : ℕ) → Stands m s t → Stands m′ s t → nodeAt m s ≡ nodeAt m′ s
 own-same t m m′ s r r′ = seen r ∙ sym (seen r′)
 
-pub stands-same : (t : Tree) (m m′ : List ℕ) (s z : ℕ) → Stands m s t → Stands m′ s t → 1 ≤ uses (z / 2) t → nodeAt m z ≡ nodeAt m′ z
-stands-same (leaf k e) m m′ s z r r′ h = absurd (omega arith)
-stands-same (node q a b) m m′ s z r r′ h = elim (decLt 0 (uses (z / 2) a)) [
-  | yes y ↦ stands-same a m m′ (2 * q) z (left-stands r) (left-stands r′) y
-  | no y ↦ elim (decLt 0 (uses (z / 2) b)) [
-    | yes x ↦ stands-same b m m′ (2 * q + 1) z (right-stands r) (right-stands r′) x
-    | no x ↦ let g : z / 2 ≡ q = same-is (z / 2) q (omega arith) in elim (decLt (2 * q) z) [
-      | yes l ↦ let e : z ≡ 2 * q + 1 = omega arith in rw e (own-same b m m′ (2 * q + 1) (right-stands r) (right-stands r′))
-      | no l ↦ let e : z ≡ 2 * q = omega arith in rw e (own-same a m m′ (2 * q) (left-stands r) (left-stands r′))
+pub stands-same : (t : Tree) (m m′ : List ℕ) (s z : ℕ) → z % 4 ≡ 0 → Stands m s t → Stands m′ s t → 1 ≤ uses (z / 8) t → nodeAt m z ≡ nodeAt m′ z
+stands-same (leaf k e) m m′ s z v r r′ h = absurd (omega arith)
+stands-same (node q a b) m m′ s z v r r′ h = elim (decLt 0 (uses (z / 8) a)) [
+  | yes y ↦ stands-same a m m′ (8 * q) z v (left-stands r) (left-stands r′) y
+  | no y ↦ elim (decLt 0 (uses (z / 8) b)) [
+    | yes x ↦ stands-same b m m′ (8 * q + 4) z v (right-stands r) (right-stands r′) x
+    | no x ↦ let g : z / 8 ≡ q = same-is (z / 8) q (omega arith) in elim (decLt (8 * q) z) [
+      | yes l ↦ let e : z ≡ 8 * q + 4 = omega arith in rw e (own-same b m m′ (8 * q + 4) (right-stands r) (right-stands r′))
+      | no l ↦ let e : z ≡ 8 * q = omega arith in rw e (own-same a m m′ (8 * q) (left-stands r) (left-stands r′))
     ]
   ]
 ]
 
 -- two memories after one, with the same tree in them, and written only at its seat and its places
-pub determined : (n : ℕ → ℕ) (t : Tree) (s : ℕ) (m m′ m″ : List ℕ) → ((z : ℕ) → 1 ≤ n z → (z ≡ s) ⊎ (1 ≤ uses (z / 2) t)) → Bytes m′ → Bytes m″
+pub determined : (n : ℕ → ℕ) (t : Tree) (s : ℕ) (m m′ m″ : List ℕ) → ((z : ℕ) → 1 ≤ n z → (z ≡ s) ⊎ (1 ≤ uses (z / 8) t)) → Bytes m′ → Bytes m″
     → Stands m′ s t → Kept n m m′ → Stands m″ s t → Kept n m m″ → m′ ≡ m″
 determined n t s m m′ m″ on x y r f r′ g =
     ext-getD 0 m′ m″ (f .len ∙ sym (g .len)) (λ b l. elim (decLt b 224) [
       | yes h ↦ f .byte b (inl h) ∙ sym (g .byte b (inl h))
       | no h ↦ elim (decLt 0 (n (seatOf b))) [
-        | yes u ↦ node-bytes m′ m″ x y b (omega arith) (at (seatOf b) (on (seatOf b) u))
+        | yes u ↦ node-bytes m′ m″ x y b (omega arith) (at (seatOf b) (omega arith) (on (seatOf b) u))
         | no u ↦ let z : n (seatOf b) ≡ 0 = omega arith in f .byte b (inr z) ∙ sym (g .byte b (inr z))
       ]
     ])
   where
-    at : (z : ℕ) → (z ≡ s) ⊎ (1 ≤ uses (z / 2) t) → nodeAt m′ z ≡ nodeAt m″ z
-    at z (inl e) = rw e (own-same t m′ m″ s r r′)
-    at z (inr h) = stands-same t m′ m″ s z r r′ h
+    at : (z : ℕ) → z % 4 ≡ 0 → (z ≡ s) ⊎ (1 ≤ uses (z / 8) t) → nodeAt m′ z ≡ nodeAt m″ z
+    at z v (inl e) = rw e (own-same t m′ m″ s r r′)
+    at z v (inr h) = stands-same t m′ m″ s z v r r′ h

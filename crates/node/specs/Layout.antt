@@ -10,30 +10,31 @@ use Rattle.numbers.specs.Words.{word, store}
 use Rattle.shape.specs.Tree.{same}
 use Rattle.node.specs.declared.Node.{Node}
 
--- the words of the header, and of each node after it; there is no node at seat 0: the header ends where seat 1 begins
+-- the words of the header; the four words of each node come after it
 abbrev pub headerWords : ℕ
 headerWords = 28
 
-abbrev pub nodeWords : ℕ
-nodeWords = 4
-
--- the first word of the node at seat s
+-- the first word of the node at seat s. Seats are numbered by words, so that no address needs a shift (docs/DECISIONS.md)
 abbrev pub base : ℕ → ℕ
-base s = nodeWords * s + 24
+base s = s + 24
 
--- the root's seat; every other node is beside its sibling: the place q has the seats 2 q, for a left child, and 2 q + 1
+-- the root's seat; every other node is beside its sibling: the place q has the seats 8 q, for a left child, and 8 q + 4
 abbrev pub rootSeat : ℕ
-rootSeat = 1
+rootSeat = 4
 
--- the node at seat s is inside the memory, and s can be noted in a way
+-- s is a seat, the node there is inside the memory, and s can be noted in a way
 abbrev pub Within : List ℕ → ℕ → Type 0
-Within m s = (32 * s + 224 ≤ length m) × (1 ≤ s) × (s < 65536)
+Within m s = (8 * s + 224 ≤ length m) × (4 ≤ s) × (s < 65536) × (s % 4 ≡ 0)
+
+-- no link has more places than this: so every seat can be noted in a way
+abbrev pub mostPlaces : ℕ
+mostPlaces = 8192
 
 -- the bytes of the header and of so many places, the place 0 among them: that has one seat, the root's, every other one two
 abbrev pub bytesFor : (places : ℕ) → ℕ
 bytesFor n = 192 + 64 * n
 
--- a node's links are one word: its height in the upper half, the place in the lower
+-- a node's links are one word: its height in the upper half, in the lower the left seat of its place, where its children are
 abbrev pub halfWord : ℕ
 halfWord = 4294967296
 
@@ -70,7 +71,7 @@ saved m s n = store (sumsSaved m s n) (base s + 3) (linksOf n)
 abbrev pub leafNode : (key end : ℕ) → Node
 leafNode k e = record { height = 0; lo = k; top = e; low = e; place = 0 }
 
--- the node over two others, which stand at place q
+-- the node over two others, of which the left one is at q
 abbrev pub overNode : (x y : Node) → (q : ℕ) → Node
 overNode x y q =
     record { height = max (x .height) (y .height) + 1; lo = x .lo; top = max (x .top) (y .top); low = min (x .low) (y .low); place = q }
@@ -90,7 +91,7 @@ SameSums x y = (x .lo ≡ y .lo) × (x .top ≡ y .top) × (x .low ≡ y .low)
 -- ---- the frame
 -- the seat whose node has the byte b
 abbrev pub seatOf : (b : ℕ) → ℕ
-seatOf b = (b - 192) / 32
+seatOf b = (b - 192) / 32 * 4
 
 -- m′ is as long as m, and differs from it at most in the nodes of seats z with n z > 0: not in the header, not in another node.
 -- n z says how often the seat z may have been written
@@ -103,30 +104,30 @@ pub record Saved (s : ℕ) (n : Node) (m m′ : List ℕ) : Type 0 where
   pub at : nodeAt m′ s ≡ n
   pub kept : Kept (λ z. same z s) m m′
 
--- m′ is m with s over the nodes at place q
+-- m′ is m with s over the nodes at q and beside it
 abbrev pub Over : (s q : ℕ) → (m m′ : List ℕ) → Type 0
-Over s q m m′ = Saved s (overNode (nodeAt m (2 * q)) (nodeAt m (2 * q + 1)) q) m m′
+Over s q m m′ = Saved s (overNode (nodeAt m q) (nodeAt m (q + 4)) q) m m′
 
 -- m′ is m with the node of one seat at another too
 abbrev pub Copied : (from to : ℕ) → (m m′ : List ℕ) → Type 0
 Copied s s′ m m′ = Saved s′ (nodeAt m s) m m′
 
--- what reading the nodes at place q and writing s asks: they are inside
+-- what reading the nodes at q and beside it and writing s asks: they are inside
 pub record Summable (m : List ℕ) (s q : ℕ) : Type 0 where
   pub at : Within m s
-  pub left : Within m (2 * q)
-  pub right : Within m (2 * q + 1)
+  pub left : Within m q
+  pub right : Within m (q + 4)
 
--- what writing s over the nodes at place q asks: that, and that the height fits
+-- what writing s over them asks: that, and that the height fits
 pub record Mendable (m : List ℕ) (s q : ℕ) : Type 0 where
   pub sums : Summable m s q
-  pub low-left : nodeAt m (2 * q) .height < halfWord - 1
-  pub low-right : nodeAt m (2 * q + 1) .height < halfWord - 1
+  pub low-left : nodeAt m q .height < halfWord - 1
+  pub low-right : nodeAt m (q + 4) .height < halfWord - 1
 
 -- ---- a node summed up anew
--- m′ is m with s summed up anew, from the nodes at place q
+-- m′ is m with s summed up anew, from the nodes at q and beside it
 abbrev pub Summed : (s q : ℕ) → (m m′ : List ℕ) → Type 0
-Summed s q m m′ = Saved s (summedNode (nodeAt m s) (nodeAt m (2 * q)) (nodeAt m (2 * q + 1))) m m′
+Summed s q m m′ = Saved s (summedNode (nodeAt m s) (nodeAt m q) (nodeAt m (q + 4))) m m′
 
 -- and b is false exactly where that changed nothing: then no byte was written
 pub record Sums (s q : ℕ) (b : Bool) (m m′ : List ℕ) : Type 0 where

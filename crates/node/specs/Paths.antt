@@ -2,7 +2,7 @@
 -- Whoever goes down may note it, and who goes up again needs no second search.
 use mathlib.Core.Path.{_≡_}
 use mathlib.Core.List.{List}
-use Prim.Native.Nat.{ℕ, suc, _/_, _<_}
+use Prim.Native.Nat.{ℕ, suc, _*_, _/_, _%_, _<_}
 use lib.ListN.{length, getD}
 use Rattle.shape.specs.Tree.{Tree, In}
 use Rattle.node.specs.Layout.{nodeAt}
@@ -12,10 +12,11 @@ use Rattle.node.specs.Rep.{Stands}
 abbrev pub longestWay : ℕ
 longestWay = 32
 
--- x is the seat of a child of the inner node at w
+-- x is a seat of the place where the children of the inner node at w are
 pub record Child (m : List ℕ) (w x : ℕ) : Type 0 where
   pub inner : nodeAt m w .height ≡ 0 → ⊥
-  pub is : x / 2 ≡ nodeAt m w .place
+  pub is : 8 * (x / 8) ≡ nodeAt m w .place
+  pub seat : x % 4 ≡ 0
 
 -- the first d + 1 seats of the list go down from s
 pub record Down (m : List ℕ) (s d : ℕ) (ws : List ℕ) : Type 0 where

@@ -166,7 +166,7 @@ module _ (m m1 m2 ds : List ℕ) (room leap floor : ℕ) (long : need room ≤ l
         past = past-then wider (past-kept _ m1 m2 (places room) (s .kept) (λ z l. same-other z rootSeat (omega arith)));
       }
 
-  pub lay-pre : (need room ≤ length m2) × (room < 32768) × (word m2 7 < 65536)
+  pub lay-pre : (need room ≤ length m2) × (room < 8192) × (word m2 7 < 65536)
   lay-pre = omega (arith, part-2 .long, part-2 .heads 7 (omega arith))
 
   pub begun : (m3 : List ℕ) → length ds ≤ mostLines → Laid room room m2 m3 → After m m3 (single (settings room 1 leap ds) floor)

@@ -5,6 +5,7 @@ ghost use lib.ListN.{length, getD};
 ghost use Rattle.numbers.specs.Words.{word};
 ghost use Rattle.rule.specs.Moments.{lastMoment};
 ghost use Rattle.rule.specs.Settings.{mostLines, mostRoom, settings};
+ghost use Rattle.node.specs.Layout.{mostPlaces};
 ghost use Rattle.state.specs.Open.{single};
 ghost use Rattle.memory.specs.Header.{need};
 ghost use Rattle.memory.specs.Holds.{After};
@@ -51,7 +52,7 @@ fn put_header(mem: &mut [u8], room: u64, leap: u64, floor: u64, delays: &[u64])
 
 // The n places from 1 to n become the spare ones, the last one first.
 fn lay(mem: &mut [u8], n: u64)
-    requires { ⌜ (need n ≤ length (now mem)) × (n < 32768) × (word (now mem) 7 < 65536) ⌝ }
+    requires { ⌜ (need n ≤ length (now mem)) × (n < mostPlaces) × (word (now mem) 7 < 65536) ⌝ }
     ensures { λ _. ⌜ Laid n n (now (mem .entry)) (now (mem .exit)) ⌝ }
 {
     let mut k = 0;

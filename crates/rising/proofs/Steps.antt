@@ -17,7 +17,7 @@ use Rattle.node.specs.Layout.{nodeAt, summedNode, overNode, Kept, Over, Summed}
 use Rattle.node.specs.Rep.{Stands}
 use Rattle.node.proofs.Frames.{kept-none, kept-then, node-kept, within-kept}
 use Rattle.node.proofs.Reps.{seen, tall, within, stands-frame, left-stands, right-stands}
-use Rattle.node.proofs.Seats.{nearSeat, farSeat, near-half, far-half, near-far, Children, children}
+use Rattle.node.proofs.Seats.{farOf, nearSeat, farSeat, near-half, far-half, near-is, far-is, near-far, Children, children}
 use Rattle.turning.specs.Turns.{Two, Both, Balances}
 use Rattle.turning.proofs.Sides.{uses-sides, seat-free, two-on, two-over}
 use Rattle.tracing.specs.Ways.{Leads}
@@ -31,26 +31,30 @@ module _ (c : Change) (m0 : List ℕ) (w x : ℕ) (L : Leads m0 (keyOf c) w x) w
 
   -- the side that the key leads to, and the other child's seat
   abbrev pub s : Bool
-  s = ltb (keyOf c) (nodeAt m0 (2 * n .place + 1) .lo)
+  s = ltb (keyOf c) (nodeAt m0 (n .place + 4) .lo)
 
   abbrev pub y : ℕ
-  y = farSeat s (n .place)
+  y = farOf s (n .place)
 
   module _ (v : ℕ) (l r : Tree) (B : Begun c m0 w (node v l r)) where
     pub kid : Children m0 w n refl s x y v l r
     kid = children m0 w n refl s x y v l r (L .to) refl (B .stands)
 
-    x-is : x ≡ nearSeat s v
-    x-is = L .to ∙ ap (nearSeat s) (kid .at)
+    pub x-is : x ≡ nearSeat s v
+    x-is = L .to ∙ near-is s v (kid .at)
 
-    y-is : y ≡ farSeat s v
-    y-is = ap (farSeat s) (kid .at)
+    pub y-is : y ≡ farSeat s v
+    y-is = far-is s v (kid .at)
 
-    pub x-half : x / 2 ≡ v
-    x-half = ap (λ (z : ℕ). z / 2) x-is ∙ near-half s v
+    pub x-half : x / 8 ≡ v
+    x-half = ap (λ (z : ℕ). z / 8) x-is ∙ near-half s v
 
-    y-half : y / 2 ≡ v
-    y-half = ap (λ (z : ℕ). z / 2) y-is ∙ far-half s v
+    y-half : y / 8 ≡ v
+    y-half = ap (λ (z : ℕ). z / 8) y-is ∙ far-half s v
+
+    -- by the number that the code has of it
+    pub place-at : x / 8 * 8 ≡ 8 * v
+    place-at = omega (arith, x-half)
 
     pub leads : s ≡ ltb (keyOf c) (lo r)
     leads = ap (ltb (keyOf c)) (kid .split)
@@ -76,25 +80,25 @@ module _ (c : Change) (m0 : List ℕ) (w x : ℕ) (L : Leads m0 (keyOf c) w x) w
       G = g (near s l r) begun-near
 
       -- a seat at a place of F, and at none of the near tree, was not written
-      off-place : (z p : ℕ) → z / 2 ≡ p → uses p (near s l r) + fresh c p ≡ 0 → z ≢ x → same z x + uses (z / 2) (near s l r) + fresh c (z / 2) ≡ 0
+      off-place : (z p : ℕ) → z / 8 ≡ p → uses p (near s l r) + fresh c p ≡ 0 → z ≢ x → same z x + uses (z / 8) (near s l r) + fresh c (z / 8) ≡ 0
       off-place z p e h d = rw e (omega (arith, h, same-other z x d))
 
-      at-v : uses v (near s l r) + uses v F + fresh c v + same v (w / 2) ≡ 0
+      at-v : uses v (near s l r) + uses v F + fresh c v + same v (w / 8) ≡ 0
       at-v = omega (arith, B .once v, same-self v, uses-sides v s l r)
 
       pub node-same : nodeAt m w ≡ nodeAt m0 w
       node-same =
-          let o = B .once (w / 2) in
-          node-kept _ m0 m (G .kept) w
-          (off-place w (w / 2) refl (omega (arith, o, same-self (w / 2), uses-sides (w / 2) s l r)) (λ e. same-none v (w / 2) (omega (arith, at-v)) (sym x-half ∙ ap (λ (z : ℕ). z / 2) (sym e))))
+          let o = B .once (w / 8) in
+          node-kept _ m0 m (G .kept) w (within (B .stands) .3)
+          (off-place w (w / 8) refl (omega (arith, o, same-self (w / 8), uses-sides (w / 8) s l r)) (λ e. same-none v (w / 8) (omega (arith, at-v)) (sym x-half ∙ ap (λ (z : ℕ). z / 8) (sym e))))
 
       pub far-same : nodeAt m y ≡ nodeAt m0 y
-      far-same = node-kept _ m0 m (G .kept) y (off-place y v y-half (omega (arith, at-v)) (λ e. near-far s v (sym x-is ∙ (sym e ∙ y-is))))
+      far-same = node-kept _ m0 m (G .kept) y (within (kid .far-at) .3) (off-place y v y-half (omega (arith, at-v)) (λ e. near-far s v (sym x-is ∙ (sym e ∙ y-is))))
 
       far-at : Stands m y F
       far-at =
           stands-frame (G .kept) (off-place y v y-half (omega (arith, at-v)) (λ e. near-far s v (sym x-is ∙ (sym e ∙ y-is))))
-          (λ z u. off-place z (z / 2) refl (omega (arith, B .once (z / 2), uses-sides (z / 2) s l r)) (λ e. absurd (omega (arith, at-v, ap (λ (q : ℕ). uses (q / 2) F) e, ap (λ (q : ℕ). uses q F) x-half))))
+          (λ z u. off-place z (z / 8) refl (omega (arith, B .once (z / 8), uses-sides (z / 8) s l r)) (λ e. absurd (omega (arith, at-v, ap (λ (q : ℕ). uses (q / 8) F) e, ap (λ (q : ℕ). uses q F) x-half))))
           (kid .far-at)
 
       pub two : Two m w v (near s A F) (far s A F)
@@ -103,59 +107,59 @@ module _ (c : Change) (m0 : List ℕ) (w x : ℕ) (L : Leads m0 (keyOf c) w x) w
           (λ z. omega (arith, B .once z, uses-sides z s l r, after-uses c z (near s l r) i))
           (omega (arith, B .low, after-height c (near s l r), height-sides s l r))
 
-      pub both-at : Both m w (x / 2)
-      both-at = rw x-half (near s A F, far s A F, two)
+      pub both-at : Both m w (x / 8 * 8)
+      both-at = (v, place-at, near s A F, far s A F, two)
 
-      changed : (m2 : List ℕ) (k : ℕ → ℕ) → Stands m2 w (after c (node v l r)) → Kept k m m2 → ((z : ℕ) → same z w + (same (z / 2) v + uses (z / 2) A + uses (z / 2) F) ≡ 0 → k z ≡ 0) → Changed c w (node v l r) m0 m2
+      changed : (m2 : List ℕ) (k : ℕ → ℕ) → Stands m2 w (after c (node v l r)) → Kept k m m2 → ((z : ℕ) → same z w + (same (z / 8) v + uses (z / 8) A + uses (z / 8) F) ≡ 0 → k z ≡ 0) → Changed c w (node v l r) m0 m2
       changed m2 k st kept h =
           record {
             stands = st;
             kept = kept-then (G .kept) kept (λ z e. (
-              omega (arith, e, uses-sides (z / 2) s l r, seat-free z x v x-half (omega (arith, e))),
-              h z (omega (arith, e, uses-sides (z / 2) s l r, after-uses c (z / 2) (near s l r) i)),
+              omega (arith, e, uses-sides (z / 8) s l r, seat-free z x v x-half (omega (arith, e))),
+              h z (omega (arith, e, uses-sides (z / 8) s l r, after-uses c (z / 8) (near s l r) i)),
             ));
           }
 
       -- by a balance
-      pub carried : Turned c → (m2 : List ℕ) → Balances w v m m2 → Changed c w (node v l r) m0 m2
+      pub carried : Turned c → (m2 : List ℕ) → Balances w (x / 8 * 8) m m2 → Changed c w (node v l r) m0 m2
       carried t m2 bal =
-          let b = bal _ _ two in
-          changed m2 _ (rw (after-side c v l r s leads t i) (b .stands)) (b .kept) (λ z e. omega (arith, e, uses-sides (z / 2) s A F))
+          let b = bal v place-at _ _ two in
+          changed m2 _ (rw (after-side c v l r s leads t i) (b .stands)) (b .kept) (λ z e. omega (arith, e, uses-sides (z / 8) s A F))
 
       -- by summing up, where the tree at x is as high as it was
       module _ (h : nodeAt m x .height ≡ nodeAt m0 x .height) where
         level : height A ≡ height (near s l r)
         level = sym (tall (G .stands)) ∙ (h ∙ tall (kid .near-at))
 
-        high : nodeAt m w .height ≡ max (nodeAt m (2 * v) .height) (nodeAt m (2 * v + 1) .height) + 1
+        high : nodeAt m w .height ≡ max (nodeAt m (8 * v) .height) (nodeAt m (8 * v + 4) .height) + 1
         high = omega (arith, ap (λ (z : Node). z .height) node-same, tall (B .stands), tall (two .first), tall (two .second), level, height-sides s A F, height-sides s l r)
 
-        over-summed : (m2 : List ℕ) → Summed w v m m2 → Over w v m m2
+        over-summed : (m2 : List ℕ) → Summed w (8 * v) m m2 → Over w (8 * v) m m2
         over-summed m2 o = record { at = o .at ∙ again; kept = o .kept }
           where
-            place-is : nodeAt m w .place ≡ v
+            place-is : nodeAt m w .place ≡ 8 * v
             place-is = ap (λ (z : Node). z .place) node-same ∙ kid .at
 
-            again : summedNode (nodeAt m w) (nodeAt m (2 * v)) (nodeAt m (2 * v + 1)) ≡ overNode (nodeAt m (2 * v)) (nodeAt m (2 * v + 1)) v
+            again : summedNode (nodeAt m w) (nodeAt m (8 * v)) (nodeAt m (8 * v + 4)) ≡ overNode (nodeAt m (8 * v)) (nodeAt m (8 * v + 4)) (8 * v)
             again = rw (← high, place-is) refl
 
-        pub summed-up : (m2 : List ℕ) → Summed w v m m2 → Changed c w (node v l r) m0 m2
+        pub summed-up : (m2 : List ℕ) → Summed w (8 * v) m m2 → Changed c w (node v l r) m0 m2
         summed-up m2 o =
             changed m2 _ (rw (after-flat c v l r s leads (B .even) level i) (two-over two m2 (over-summed m2 o))) (o .kept) (λ z e. omega (arith, e))
 
       -- the node at x is as it was: then nothing changes here either
-      pub still-summed : nodeAt m x ≡ nodeAt m0 x → Summed w v m m
+      pub still-summed : nodeAt m x ≡ nodeAt m0 x → Summed w (8 * v) m m
       still-summed e = record { at = node-same ∙ (sums ∙ again); kept = kept-none _ m }
         where
-          sums : nodeAt m0 w ≡ summedNode (nodeAt m0 w) (nodeAt m0 (2 * v)) (nodeAt m0 (2 * v + 1))
+          sums : nodeAt m0 w ≡ summedNode (nodeAt m0 w) (nodeAt m0 (8 * v)) (nodeAt m0 (8 * v + 4))
           sums = rw (seen (B .stands), seen (left-stands (B .stands)), seen (right-stands (B .stands))) refl
 
           both : (b : Bool) → nodeAt m (nearSeat b v) ≡ nodeAt m0 (nearSeat b v) → nodeAt m (farSeat b v) ≡ nodeAt m0 (farSeat b v)
-              → (nodeAt m (2 * v) ≡ nodeAt m0 (2 * v)) × (nodeAt m (2 * v + 1) ≡ nodeAt m0 (2 * v + 1))
+              → (nodeAt m (8 * v) ≡ nodeAt m0 (8 * v)) × (nodeAt m (8 * v + 4) ≡ nodeAt m0 (8 * v + 4))
           both true p q = (p, q)
           both false p q = (q, p)
 
-          again : summedNode (nodeAt m0 w) (nodeAt m0 (2 * v)) (nodeAt m0 (2 * v + 1)) ≡ summedNode (nodeAt m w) (nodeAt m (2 * v)) (nodeAt m (2 * v + 1))
+          again : summedNode (nodeAt m0 w) (nodeAt m0 (8 * v)) (nodeAt m0 (8 * v + 4)) ≡ summedNode (nodeAt m w) (nodeAt m (8 * v)) (nodeAt m (8 * v + 4))
           again = let b = both s (rw x-is at e) (rw y-is at far-same) in rw (node-same, b .0, b .1) refl
 
 -- ---- of whatever tree stands at w: it is no leaf
@@ -173,7 +177,7 @@ module _ (c : Change) (m0 : List ℕ) (w x : ℕ) (L : Leads m0 (keyOf c) w x) w
 
     -- what the step asks, and that the node at w is as it was
     pub record Step : Type 0 where
-      pub both : Both m w (x / 2)
+      pub both : Both m w (x / 8 * 8)
       pub node : nodeAt m w ≡ nodeAt m0 w
 
     pub step-at : Ready c m0 w → Step
@@ -184,17 +188,17 @@ module _ (c : Change) (m0 : List ℕ) (w x : ℕ) (L : Leads m0 (keyOf c) w x) w
         go (node v l r) B =
             record { both = both-at c m0 w x L v l r B m g (kid-high v l r B); node = node-same c m0 w x L v l r B m g (kid-high v l r B) }
 
-    pub carries : Turned c → (m2 : List ℕ) → Balances w (x / 2) m m2 → Becomes c w m0 m2
+    pub carries : Turned c → (m2 : List ℕ) → Balances w (x / 8 * 8) m m2 → Becomes c w m0 m2
     carries t m2 o (leaf j f) B = absurd (L .inner (tall (B .stands)))
-    carries t m2 o (node v l r) B = carried c m0 w x L v l r B m g (kid-high v l r B) t m2 (rw (x-half c m0 w x L v l r B) at o)
+    carries t m2 o (node v l r) B = carried c m0 w x L v l r B m g (kid-high v l r B) t m2 o
 
-    pub sums-up : nodeAt m x .height ≡ nodeAt m0 x .height → (m2 : List ℕ) → Summed w (x / 2) m m2 → Becomes c w m0 m2
+    pub sums-up : nodeAt m x .height ≡ nodeAt m0 x .height → (m2 : List ℕ) → Summed w (x / 8 * 8) m m2 → Becomes c w m0 m2
     sums-up h m2 o (leaf j f) B = absurd (L .inner (tall (B .stands)))
-    sums-up h m2 o (node v l r) B = summed-up c m0 w x L v l r B m g (kid-high v l r B) h m2 (rw (x-half c m0 w x L v l r B) at o)
+    sums-up h m2 o (node v l r) B = summed-up c m0 w x L v l r B m g (kid-high v l r B) h m2 (rw (place-at c m0 w x L v l r B) at o)
 
-    pub stays : nodeAt m x ≡ nodeAt m0 x → Ready c m0 w → Summed w (x / 2) m m
+    pub stays : nodeAt m x ≡ nodeAt m0 x → Ready c m0 w → Summed w (x / 8 * 8) m m
     stays e b = go (b .0) (b .1)
       where
-        go : (tr : Tree) → Begun c m0 w tr → Summed w (x / 2) m m
+        go : (tr : Tree) → Begun c m0 w tr → Summed w (x / 8 * 8) m m
         go (leaf j f) B = absurd (L .inner (tall (B .stands)))
-        go (node v l r) B = rw (x-half c m0 w x L v l r B) (still-summed c m0 w x L v l r B m g (kid-high v l r B) e)
+        go (node v l r) B = rw (place-at c m0 w x L v l r B) (still-summed c m0 w x L v l r B m g (kid-high v l r B) e)

@@ -40,7 +40,7 @@ Ready c m t = (tr : Tree) × Begun c m t tr
 -- ---- what it promises
 pub record Changed (c : Change) (t : ℕ) (tr : Tree) (m m′ : List ℕ) : Type 0 where
   pub stands : Stands m′ t (after c tr)
-  pub kept : Kept (λ z. same z t + uses (z / 2) tr + fresh c (z / 2)) m m′
+  pub kept : Kept (λ z. same z t + uses (z / 8) tr + fresh c (z / 8)) m m′
 
 -- m′ is m with the tree at t changed
 abbrev pub Becomes : Change → (t : ℕ) → (m m′ : List ℕ) → Type 0

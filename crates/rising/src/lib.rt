@@ -1,6 +1,7 @@
 // The way up again, after a change at its end: summed up or balanced node after node, as far as anything changes.
 // Which change it is only the contracts say (specs/Rises.antt): the code is the same for all three.
 ghost use Rattle.rising.specs.Rises.{Settled, Settles, Risen, Rises};
+use node::PLACE_WORDS;
 
 // Sums up the way anew from a seat upward, as far as anything changes. The seat below a node tells its children's place.
 pub fn settle(mem: &mut [u8], way: &[u16], from: usize)
@@ -9,7 +10,7 @@ pub fn settle(mem: &mut [u8], way: &[u16], from: usize)
 {
     let mut i = from;
     while 0 < i {
-        let q = (way[i] / 2) as u64;
+        let q = way[i] as u64 / PLACE_WORDS * PLACE_WORDS;
         i -= 1;
         if !summing::sum_up(mem, way[i] as usize, q) {
             return;
@@ -24,7 +25,7 @@ pub fn rise(mem: &mut [u8], way: &[u16], from: usize)
 {
     let mut i = from;
     while 0 < i {
-        let q = (way[i] / 2) as u64;
+        let q = way[i] as u64 / PLACE_WORDS * PLACE_WORDS;
         i -= 1;
         let s = way[i] as usize;
         let was = node::load(mem, s).height;

@@ -19,10 +19,10 @@ use Rattle.node.specs.Layout.{Within, nodeAt}
 use Rattle.node.specs.Rep.{Stands}
 use Rattle.node.specs.Paths.{longestWay, Child}
 use Rattle.node.proofs.Paths.{noted, noted-here}
-use Rattle.node.proofs.Seats.{nearSeat, near-half}
+use Rattle.node.proofs.Seats.{nearOf}
 use Rattle.search.specs.declared.Descent.{Descent}
 use Rattle.search.specs.Search.{Descendable, Descended, Prolonged}
-use Rattle.search.proofs.Look.{leaf-here, inner-here, small-here, high-here, top-here, child-within, child-lower, place-next}
+use Rattle.search.proofs.Look.{leaf-here, inner-here, small-here, high-here, top-here, child-within, child-lower, child-is, place-next}
 
 module _ (m : List ℕ) (q f : ℕ) (ws : List ℕ) (i : ℕ) (D : Descendable m q ws i) where
   -- the seat noted last
@@ -44,7 +44,7 @@ module _ (m : List ℕ) (q f : ℕ) (ws : List ℕ) (i : ℕ) (D : Descendable m
   )
 
   module _ (h : q ≡ 0 → ⊥) where
-    pub child-in : (b : Bool) (x : ℕ) → x ≡ nearSeat b q → Within m x
+    pub child-in : (b : Bool) (x : ℕ) → x ≡ nearOf b q → Within m x
     child-in b x ex = child-within b (D .place) h x ex (D .tree) (D .stands)
 
     pub room : (i + 1 < length ws) × (i + 1 < longestWay)
@@ -55,12 +55,12 @@ module _ (m : List ℕ) (q f : ℕ) (ws : List ℕ) (i : ℕ) (D : Descendable m
     at-here at = getD-set-same ws (i + 1) at 0 (room .0)
 
     -- the child gone to, at the seat `at`
-    module _ (b : Bool) (at : ℕ) (ea : at ≡ nearSeat (not b) q) where
+    module _ (b : Bool) (at : ℕ) (ea : at ≡ nearOf (not b) q) where
       pub at-lower : nodeAt m (getD (set ws (i + 1) at) (i + 1) 0) .height < nodeAt m s .height
       at-lower = rw (at-here at) (child-lower (not b) (D .place) h at ea (D .tree) (D .stands))
 
       -- y and x are the nodes on the right and on the left
-      pub at-descendable : (p : ℕ) → p ≡ nearSeat false q → (y : Node) → y ≡ nodeAt m p → (l : ℕ) → l ≡ nearSeat true q → (x : Node) → x ≡ nodeAt m l
+      pub at-descendable : (p : ℕ) → p ≡ nearOf false q → (y : Node) → y ≡ nodeAt m p → (l : ℕ) → l ≡ nearOf true q → (x : Node) → x ≡ nodeAt m l
           → (z : ℕ) → z ≡ pick b (y .place) (x .place) → Descendable m z (set ws (i + 1) at) (i + 1)
       at-descendable p ep y ey l el x ex z ez =
           let c = inner-here (D .place) h (D .tree) (D .stands) in
@@ -73,7 +73,7 @@ module _ (m : List ℕ) (q f : ℕ) (ws : List ℕ) (i : ℕ) (D : Descendable m
           }
 
     -- y is the node on the right, and the descent goes on at the seat `at`
-    module _ (p : ℕ) (ep : p ≡ nearSeat false q) (y : Node) (ey : y ≡ nodeAt m p) (at : ℕ) (ea : at ≡ nearSeat (not (leb f (y .top))) q) where
+    module _ (p : ℕ) (ep : p ≡ nearOf false q) (y : Node) (ey : y ≡ nodeAt m p) (at : ℕ) (ea : at ≡ nearOf (not (leb f (y .top))) q) where
       -- what is found below is what is found here
       module _ (ws′ : List ℕ) (n : ℕ) (d : Descent) (k : (t : Tree) → Stands m (getD (set ws (i + 1) at) (i + 1) 0) t → Descended m f t d) (v : ℕ) (ev : v ≡ pick (not (leb f (y .top))) 2 1) where
         descended-on : (t : Tree) → Stands m s t → Descended m f t (record { seat = d .seat; visits = d .visits + v })
@@ -83,12 +83,12 @@ module _ (m : List ℕ) (q f : ℕ) (ws : List ℕ) (i : ℕ) (D : Descendable m
             let same : y .top ≡ top (c .right) = top-here ey right in
             elim (case-le f (y .top)) [
               | inl z ↦ let b : leb f (top (c .right)) ≡ true = rw same at (z .1) in
-                  let e : at ≡ nearSeat false q = rw (z .1) at ea in
+                  let e : at ≡ nearOf false q = rw (z .1) at ea in
                   let K = k (c .right) (rw (at-here at, e) (c .child false)) in
                   let w : v ≡ 1 = rw (z .1) at ev in
                   rw (c .is) (record { stands = K .stands; ends = rw b (K .ends); counts = rw b (omega (arith, K .counts, w)) })
               | inr z ↦ let b : leb f (top (c .right)) ≡ false = rw same at (z .1) in
-                  let e : at ≡ nearSeat true q = rw (z .1) at ea in
+                  let e : at ≡ nearOf true q = rw (z .1) at ea in
                   let K = k (c .left) (rw (at-here at, e) (c .child true)) in
                   let w : v ≡ 2 = rw (z .1) at ev in
                   rw (c .is) (record { stands = K .stands; ends = rw b (K .ends); counts = rw b (omega (arith, K .counts, w)) })
@@ -112,7 +112,10 @@ module _ (m : List ℕ) (q f : ℕ) (ws : List ℕ) (i : ℕ) (D : Descendable m
             there = P .stays (suc i) (omega arith) ∙ noted-here ws i at (room .0)
 
             child : Child m s at
-            child = record { inner = high-here (D .place) h (D .tree) (D .stands); is = ap (λ (a : ℕ). a / 2) ea ∙ near-half (not (leb f (y .top))) q ∙ D .place }
+            child =
+                let I = inner-here (D .place) h (D .tree) (D .stands) in
+                let c = child-is (not (leb f (y .top))) at q (I .label) ea (I .at) in
+                record { inner = high-here (D .place) h (D .tree) (D .stands); is = c .0 ∙ D .place; seat = c .1 }
 
             go : (j : ℕ) → i ≤ j → j < n → Child m (getD ws′ j 0) (getD ws′ (suc j) 0)
             go j l u = elim (ℕ-discrete j i) [ yes e ↦ rw (e, here, there) child | no z ↦ P .steps j (omega arith) u ]

@@ -58,7 +58,7 @@ module _ (m : List ℕ) (root r f : ℕ) (ws : List ℕ) (w : Way) (k : (t : Tre
         rw (ex, q, mark-none m ws (w .mark) (deepest f (passed r t)) g (k t s .marks), plain)
 
     pub answer-deep : b ≡ false → (w .mark ≡ 0 → ⊥)
-        → (d : Descent) → ((x : Tree) → Stands m (getD ws (w .mark) 0 - 1) x → Descended m f x d) → (y : Node) → y ≡ nodeAt m (d .seat)
+        → (d : Descent) → ((x : Tree) → Stands m (getD ws (w .mark) 0 - 4) x → Descended m f x d) → (y : Node) → y ≡ nodeAt m (d .seat)
         → (i : ℕ) (x : Found) → x ≡ record { found = true; key = y .lo; end = y .top; visits = w .visits + d .visits; noted = i; deep = w .deep; after = w .after }
         → x ≡ foundOf x (published r f t)
     answer-deep h g d j y ey i x ex =

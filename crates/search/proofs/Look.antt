@@ -1,9 +1,9 @@
 -- What the place of the node at a seat tells of the tree that stands there: a leaf, where it is 0, or an inner node over two
 -- trees that stand at its two seats. A side is true for the left (crates/shape/specs/Side.antt).
-use mathlib.Core.Path.{_≡_, sym, ap, _∙_}
+use mathlib.Core.Path.{_≡_, refl, sym, ap, _∙_}
 use mathlib.Core.Bool.{Bool, true, false, not}
 use mathlib.Core.List.{List}
-use Prim.Native.Nat.{ℕ, _+_, _<_, max}
+use Prim.Native.Nat.{ℕ, _+_, _*_, _/_, _%_, _<_, max}
 use native.Mathlib.Omega.{arith}
 use Rattle.numbers.specs.Case.{pick}
 use Rattle.shape.specs.Tree.{Tree, leaf, node, height, lo, top}
@@ -12,17 +12,19 @@ use Rattle.node.specs.declared.Node.{Node}
 use Rattle.node.specs.Layout.{Within, nodeAt}
 use Rattle.node.specs.Rep.{Stands}
 use Rattle.node.proofs.Reps.{seen, within, tall, left-stands, right-stands}
-use Rattle.node.proofs.Seats.{nearSeat, near-stands}
+use Rattle.node.proofs.Seats.{nearOf, near-stands}
 
 abbrev placeOf : Node → ℕ
 placeOf n = n .place
 
 -- t, whose children's place is q, is an inner node
 pub record Inner (m : List ℕ) (q : ℕ) (t : Tree) : Type 0 where
+  pub label : ℕ
+  pub at : q ≡ 8 * label
   pub left : Tree
   pub right : Tree
-  pub is : t ≡ node q left right
-  pub child : (b : Bool) → Stands m (nearSeat b q) (near b left right)
+  pub is : t ≡ node label left right
+  pub child : (b : Bool) → Stands m (nearOf b q) (near b left right)
   pub lower : (b : Bool) → height (near b left right) < height t
 
 module _ {m : List ℕ} {s q : ℕ} (e : q ≡ nodeAt m s .place) where
@@ -34,14 +36,16 @@ module _ {m : List ℕ} {s q : ℕ} (e : q ≡ nodeAt m s .place) where
   inner-here h (leaf k g) f = absurd (h (e ∙ ap placeOf (seen f)))
   inner-here h (node p x y) f =
       record {
+        label = p;
+        at = at;
         left = x;
         right = y;
-        is = rw at;
+        is = refl;
         child = λ b. rw at (near-stands b p (left-stands f) (right-stands f));
         lower = λ b. less b;
       }
     where
-      at : q ≡ p
+      at : q ≡ 8 * p
       at = e ∙ ap placeOf (seen f)
 
       less : (b : Bool) → height (near b x y) < max (height x) (height y) + 1
@@ -68,15 +72,20 @@ module _ {m : List ℕ} {s : ℕ} {n : Node} {t : Tree} (e : n ≡ nodeAt m s) (
   lo-here = ap (λ (a : Node). a .lo) (e ∙ seen f)
 
 -- a child stands in the memory too, at the seat x, and is less high
-module _ (b : Bool) {m : List ℕ} {s q : ℕ} (e : q ≡ nodeAt m s .place) (h : q ≡ 0 → ⊥) (x : ℕ) (ex : x ≡ nearSeat b q) where
+module _ (b : Bool) {m : List ℕ} {s q : ℕ} (e : q ≡ nodeAt m s .place) (h : q ≡ 0 → ⊥) (x : ℕ) (ex : x ≡ nearOf b q) where
   pub child-within : (t : Tree) → Stands m s t → Within m x
   child-within t f = rw ex (within (inner-here e h t f .child b))
 
   pub child-lower : (t : Tree) → Stands m s t → nodeAt m x .height < nodeAt m s .height
   child-lower t f = let i = inner-here e h t f in omega (arith, ap (λ (a : ℕ). nodeAt m a .height) ex, tall (i .child b), i .lower b, tall f)
 
+-- the seat of a child, by its place
+pub child-is : (b : Bool) (x q l : ℕ) → x ≡ nearOf b q → q ≡ 8 * l → (8 * (x / 8) ≡ q) × (x % 4 ≡ 0)
+child-is true x q l ex e = omega arith
+child-is false x q l ex e = omega arith
+
 -- of the nodes y on the right and x on the left, the place of the one gone to
-pub place-next : (m : List ℕ) (q : ℕ) (b : Bool) (p : ℕ) → p ≡ nearSeat false q → (y : Node) → y ≡ nodeAt m p → (l : ℕ) → l ≡ nearSeat true q → (x : Node) → x ≡ nodeAt m l
-    → (at : ℕ) → at ≡ nearSeat (not b) q → (z : ℕ) → z ≡ pick b (y .place) (x .place) → z ≡ nodeAt m at .place
+pub place-next : (m : List ℕ) (q : ℕ) (b : Bool) (p : ℕ) → p ≡ nearOf false q → (y : Node) → y ≡ nodeAt m p → (l : ℕ) → l ≡ nearOf true q → (x : Node) → x ≡ nodeAt m l
+    → (at : ℕ) → at ≡ nearOf (not b) q → (z : ℕ) → z ≡ pick b (y .place) (x .place) → z ≡ nodeAt m at .place
 place-next m q true p ep y ey l el x ex at ea z ez = ez ∙ ap placeOf (ey ∙ ap (nodeAt m) (ep ∙ sym ea))
 place-next m q false p ep y ey l el x ex at ea z ez = ez ∙ ap placeOf (ex ∙ ap (nodeAt m) (el ∙ sym ea))

@@ -18,7 +18,7 @@ use Rattle.node.specs.Layout.{nodeAt}
 use Rattle.node.specs.Rep.{Stands}
 use Rattle.node.specs.Paths.{longestWay}
 use Rattle.node.proofs.Paths.{noted, noted-here}
-use Rattle.node.proofs.Seats.{nearSeat}
+use Rattle.node.proofs.Seats.{nearOf}
 use Rattle.tracing.specs.Ways.{Leads}
 use Rattle.search.specs.declared.Trail.{Trail}
 use Rattle.search.specs.Search.{Searchable}
@@ -72,16 +72,16 @@ module _ (m : List ℕ) (b : ℕ) (ws : List ℕ) (t : Trail) (D : Followable m 
   follows-none z = record { able = D; lower = λ h. absurd (h z); trails = λ root T. T }
 
   -- v is the node on the right, x the seat gone to, and a the next `after`
-  module _ (h : t .place ≡ 0 → ⊥) (p : ℕ) (ep : p ≡ nearSeat false (t .place)) (v : Node) (ev : v ≡ nodeAt m p)
-      (x : ℕ) (ex : x ≡ nearSeat (not (leb (v .lo) b)) (t .place)) (a : ℕ) (ea : a ≡ pick (leb (v .lo) b) (t .after) (v .lo)) where
-    split : nodeAt m (2 * t .place + 1) .lo ≡ v .lo
+  module _ (h : t .place ≡ 0 → ⊥) (p : ℕ) (ep : p ≡ nearOf false (t .place)) (v : Node) (ev : v ≡ nodeAt m p)
+      (x : ℕ) (ex : x ≡ nearOf (not (leb (v .lo) b)) (t .place)) (a : ℕ) (ea : a ≡ pick (leb (v .lo) b) (t .after) (v .lo)) where
+    split : nodeAt m (t .place + 4) .lo ≡ v .lo
     split = sym (ap (λ (n : Node). n .lo) (ev ∙ ap (nodeAt m) ep))
 
     -- the seat noted last
     abbrev w : ℕ
     w = getD ws (t .deep) 0
 
-    leads-to : (k : ℕ) (s : Bool) → ltb k (nodeAt m (2 * t .place + 1) .lo) ≡ s → x ≡ nearSeat s (t .place) → Leads m k w x
+    leads-to : (k : ℕ) (s : Bool) → ltb k (nodeAt m (t .place + 4) .lo) ≡ s → x ≡ nearOf s (t .place) → Leads m k w x
     leads-to k s c e = record { inner = high-here (D .place) h (D .tree) (D .stands); to = rw (← D .place, c) e }
 
     deep : t .deep + 1 < length ws
@@ -91,7 +91,7 @@ module _ (m : List ℕ) (b : ℕ) (ws : List ℕ) (t : Trail) (D : Followable m 
       I : Inner m (t .place) (T .here)
       I = inner-here (D .place) h (T .here) (T .stands)
 
-      O : Ord (T .from) (t .after) (node (t .place) (I .left) (I .right))
+      O : Ord (T .from) (t .after) (node (I .label) (I .left) (I .right))
       O = rw (I .is) at (T .ordered)
 
       least : v .lo ≡ lo (I .right)
@@ -100,12 +100,12 @@ module _ (m : List ℕ) (b : ℕ) (ws : List ℕ) (t : Trail) (D : Followable m 
       -- the keys that are left lead here, and were left before
       leads-here : (k : ℕ) → b ≤ k → k < a → Leads m k w x × (k < t .after)
       leads-here k g l = elim (case-le (v .lo) b) [
-        | inl y ↦ let s : x ≡ nearSeat false (t .place) = rw (y .1) at ex in
+        | inl y ↦ let s : x ≡ nearOf false (t .place) = rw (y .1) at ex in
             let c : a ≡ t .after = rw (y .1) at ea in
-            (leads-to k false (le-ltb k (nodeAt m (2 * t .place + 1) .lo) (omega (arith, split, y .0))) s, omega arith)
-        | inr y ↦ let s : x ≡ nearSeat true (t .place) = rw (y .1) at ex in
+            (leads-to k false (le-ltb k (nodeAt m (t .place + 4) .lo) (omega (arith, split, y .0))) s, omega arith)
+        | inr y ↦ let s : x ≡ nearOf true (t .place) = rw (y .1) at ex in
             let c : a ≡ v .lo = rw (y .1) at ea in
-            (leads-to k true (lt-ltb k (nodeAt m (2 * t .place + 1) .lo) (omega (arith, split))) s, omega (arith, least, lo-in (lo (I .right)) (t .after) (I .right) (O .1)))
+            (leads-to k true (lt-ltb k (nodeAt m (t .place + 4) .lo) (omega (arith, split))) s, omega (arith, least, lo-in (lo (I .right)) (t .after) (I .right) (O .1)))
       ]
 
       leads-next : (k : ℕ) → b ≤ k → k < a → (i : ℕ) → i < t .deep + 1 → Leads m k (getD (set ws (t .deep + 1) x) i 0) (getD (set ws (t .deep + 1) x) (suc i) 0)
@@ -116,10 +116,10 @@ module _ (m : List ℕ) (b : ℕ) (ws : List ℕ) (t : Trail) (D : Followable m 
 
       gone : Gone m x a
       gone = elim (case-le (v .lo) b) [
-        | inl y ↦ let s : x ≡ nearSeat false (t .place) = rw (y .1) at ex in
+        | inl y ↦ let s : x ≡ nearOf false (t .place) = rw (y .1) at ex in
             let c : a ≡ t .after = rw (y .1) at ea in
             record { tree = I .right; from = lo (I .right); stands = subst (λ (y : ℕ). Stands m y (I .right)) (sym s) (I .child false); ordered = subst (λ (y : ℕ). Ord (lo (I .right)) y (I .right)) (sym c) (O .1) }
-        | inr y ↦ let s : x ≡ nearSeat true (t .place) = rw (y .1) at ex in
+        | inr y ↦ let s : x ≡ nearOf true (t .place) = rw (y .1) at ex in
             let c : a ≡ lo (I .right) = (rw (y .1) at ea) ∙ least in
             record { tree = I .left; from = T .from; stands = subst (λ (y : ℕ). Stands m y (I .left)) (sym s) (I .child true); ordered = subst (λ (y : ℕ). Ord (T .from) y (I .left)) (sym c) (O .0) }
       ]
@@ -136,7 +136,7 @@ module _ (m : List ℕ) (b : ℕ) (ws : List ℕ) (t : Trail) (D : Followable m 
           }
 
     -- u is the node on the left
-    pub follows-next : (l : ℕ) → l ≡ nearSeat true (t .place) → (u : Node) → u ≡ nodeAt m l → (z : ℕ) → z ≡ pick (leb (v .lo) b) (v .place) (u .place)
+    pub follows-next : (l : ℕ) → l ≡ nearOf true (t .place) → (u : Node) → u ≡ nodeAt m l → (z : ℕ) → z ≡ pick (leb (v .lo) b) (v .place) (u .place)
         → Follows m b t (record { place = z; deep = t .deep + 1; after = a }) ws (set ws (t .deep + 1) x)
     follows-next l el u eu z ez =
         record {

@@ -3,7 +3,7 @@ use mathlib.Core.Path.{_≡_, refl, ap, _∙_}
 use mathlib.Core.Logic.{inl, inr}
 use mathlib.Core.Bool.{Bool, true, false, not}
 use mathlib.Core.List.{List}
-use Prim.Native.Nat.{ℕ, zero, suc, _+_, _-_, _/_, _%_, _<_, _≤_}
+use Prim.Native.Nat.{ℕ, zero, suc, _+_, _*_, _-_, _/_, _%_, _<_, _≤_}
 use native.Mathlib.Omega.{arith}
 use lib.ListN.{length, getD, set, length-set}
 use lib.Seq.{getD-set-same}
@@ -15,12 +15,12 @@ use Rattle.node.specs.Layout.{Within, nodeAt}
 use Rattle.node.specs.Rep.{Stands}
 use Rattle.node.specs.Paths.{longestWay, Child, Down, Reaches}
 use Rattle.node.proofs.Reps.{within, tall}
-use Rattle.node.proofs.Seats.{nearSeat, near-half}
+use Rattle.node.proofs.Seats.{nearOf}
 use Rattle.node.proofs.Paths.{noted, down-start, down-next}
 use Rattle.search.specs.declared.Descent.{Descent}
 use Rattle.search.specs.declared.Way.{Way}
 use Rattle.search.specs.Search.{Descendable, Searchable, Descended, Prolonged, Walked, Under, Trodden}
-use Rattle.search.proofs.Look.{inner-here, high-here, child-lower}
+use Rattle.search.proofs.Look.{inner-here, high-here, child-lower, child-is}
 use Rattle.search.proofs.Finds.{Marked, mark-of}
 
 -- noted down to the seat d steps below the root; the mark, whose children's place is b, is beside the node j steps down
@@ -59,7 +59,7 @@ module _ (m : List ℕ) (root : ℕ) (ws0 ws : List ℕ) (d j b : ℕ) (T : Trea
     pub deeper : (d + 1 < length ws) × (d + 1 < longestWay)
     deeper = omega (arith, T .short, T .long, inner-here e h t s .lower true, tall s)
 
-    module _ (q : ℕ) (eq : q ≡ nearSeat true u) (z : Node) (ez : z ≡ nodeAt m q) (x : ℕ) where
+    module _ (q : ℕ) (eq : q ≡ nearOf true u) (z : Node) (ez : z ≡ nodeAt m q) (x : ℕ) where
       -- the mark stays
       under-kept : (i a : ℕ) → i ≡ j → a ≡ b → (i ≡ 0 → ⊥) → Under m (set ws (d + 1) x) i a
       under-kept i a ei ea n =
@@ -67,18 +67,18 @@ module _ (m : List ℕ) (root : ℕ) (ws0 ws : List ℕ) (d j b : ℕ) (T : Trea
           rw (ei, ea) (record { is = rw (noted ws d x j (T .turn)) (U .is); room = rw (noted ws d x j (T .turn)) (U .room) })
 
       -- or is the left child
-      under-here : x ≡ nearSeat false u → (i a : ℕ) → i ≡ d + 1 → a ≡ z .place → Under m (set ws (d + 1) x) i a
+      under-here : x ≡ nearOf false u → (i a : ℕ) → i ≡ d + 1 → a ≡ z .place → Under m (set ws (d + 1) x) i a
       under-here ex i a ei ea =
-          let o : getD (set ws (d + 1) x) (d + 1) 0 - 1 ≡ q = omega (arith, getD-set-same ws (d + 1) x 0 (deeper .0), ex, eq) in
+          let o : getD (set ws (d + 1) x) (d + 1) 0 - 4 ≡ q = omega (arith, getD-set-same ws (d + 1) x 0 (deeper .0), ex, eq) in
           rw ei (record { is = rw o (ea ∙ ap (λ (n : Node). n .place) ez); room = rw o (omega (arith, child-lower true e h q eq t s, T .short)) })
 
-      under-next : (right late : Bool) → x ≡ nearSeat (not right) u → (i : ℕ) → i ≡ pick right (pick late (d + 1) j) j → (a : ℕ) → a ≡ pick right (pick late (z .place) b) b
+      under-next : (right late : Bool) → x ≡ nearOf (not right) u → (i : ℕ) → i ≡ pick right (pick late (d + 1) j) j → (a : ℕ) → a ≡ pick right (pick late (z .place) b) b
           → (i ≡ 0 → ⊥) → Under m (set ws (d + 1) x) i a
       under-next true true ex i ei a ea n = under-here ex i a ei ea
       under-next true false ex i ei a ea n = under-kept i a ei ea n
       under-next false late ex i ei a ea n = under-kept i a ei ea n
 
-      pub treading-next : (right late : Bool) → x ≡ nearSeat (not right) u → (i : ℕ) → i ≡ pick right (pick late (d + 1) j) j → (a : ℕ) → a ≡ pick right (pick late (z .place) b) b
+      pub treading-next : (right late : Bool) → x ≡ nearOf (not right) u → (i : ℕ) → i ≡ pick right (pick late (d + 1) j) j → (a : ℕ) → a ≡ pick right (pick late (z .place) b) b
           → Treading m root ws0 (set ws (d + 1) x) (d + 1) i a
       treading-next right late ex i ei a ea =
           record {
@@ -91,20 +91,23 @@ module _ (m : List ℕ) (root : ℕ) (ws0 ws : List ℕ) (d j b : ℕ) (T : Trea
           }
         where
           child : Child m (getD ws d 0) x
-          child = record { inner = high-here e h t s; is = ap (λ (y : ℕ). y / 2) ex ∙ near-half (not right) u ∙ e }
+          child =
+              let I = inner-here e h t s in
+              let c = child-is (not right) x u (I .label) ex (I .at) in
+              record { inner = high-here e h t s; is = c .0 ∙ e; seat = c .1 }
 
   pub trodden : (v g a : ℕ) → Trodden m root ws (record { depth = d; mark = j; below = b; visits = v; deep = g; after = a })
   trodden v g a = record { long = T .long; short = omega (arith, T .short); down = T .down; turn = T .turn; under = T .under }
 
 -- ---- what is found
 -- a way with the sibling of its node j steps down noted there
-beside-down : (m : List ℕ) (root d : ℕ) (ws : List ℕ) (x j : ℕ) → Down m root d ws → 1 ≤ j → j ≤ d → x / 2 ≡ getD ws j 0 / 2 → Down m root j (set ws j x)
-beside-down m root d ws x zero D h l e = absurd (omega arith)
-beside-down m root d ws x (suc i) D h l e =
+beside-down : (m : List ℕ) (root d : ℕ) (ws : List ℕ) (x j : ℕ) → Down m root d ws → 1 ≤ j → j ≤ d → x / 8 ≡ getD ws j 0 / 8 → x % 4 ≡ 0 → Down m root j (set ws j x)
+beside-down m root d ws x zero D h l e v = absurd (omega arith)
+beside-down m root d ws x (suc i) D h l e v =
     let q : suc i ≡ i + 1 = omega arith in
     let s = D .steps i (omega arith) in
     let P : Down m root i ws = record { long = omega (arith, D .long); first = D .first; steps = λ a b. D .steps a (omega arith) } in
-    rw q (down-next m root i ws P x (record { inner = s .inner; is = e ∙ s .is }) (omega (arith, D .long)))
+    rw q (down-next m root i ws P x (record { inner = s .inner; is = ap (λ (y : ℕ). 8 * y) e ∙ s .is; seat = v }) (omega (arith, D .long)))
 
 -- a way prolonged
 prolonged-down : (m : List ℕ) (root i : ℕ) (ws ws′ : List ℕ) (n x : ℕ) → Down m root i ws → Prolonged m i ws ws′ n x → Down m root n ws′
@@ -141,12 +144,12 @@ module _ (m : List ℕ) (root r f : ℕ) (ws : List ℕ) (w : Way) (k : (t : Tre
     M : Marked m ws (w .mark) (deepest f (passed r t))
     M = mark-of m ws (w .mark) (deepest f (passed r t)) h (k t s .marks)
 
-    pub mark-right : getD ws (w .mark) 0 % 2 ≡ 1
+    pub mark-right : getD ws (w .mark) 0 % 8 ≡ 4
     mark-right = M .beside .right
 
     -- the marked node's seat
     abbrev seat : ℕ
-    seat = getD ws (w .mark) 0 - 1
+    seat = getD ws (w .mark) 0 - 4
 
     pub mark-within : Within m seat
     mark-within = within (M .beside .stands)
@@ -182,7 +185,7 @@ module _ (m : List ℕ) (root r f : ℕ) (ws : List ℕ) (w : Way) (k : (t : Tre
       pub reaches-mark : (y : Node) → y ≡ nodeAt m (getD ws′ n 0) → Reaches m root n ws′ (y .lo) (y .top)
       reaches-mark y e =
           record {
-            down = prolonged-down m root (w .mark) (set ws (w .mark) seat) ws′ n (d .seat) (beside-down m root (w .depth) ws seat (w .mark) (T .down) (M .beside .deep) (T .turn) (omega (arith, mark-right))) P;
+            down = prolonged-down m root (w .mark) (set ws (w .mark) seat) ws′ n (d .seat) (beside-down m root (w .depth) ws seat (w .mark) (T .down) (M .beside .deep) (T .turn) (omega (arith, mark-right)) (mark-within .3)) P;
             sub = leaf (y .lo) (y .top);
             stands = rw (P .last, end-read y e) (g (M .tree) (M .beside .stands) .stands);
             inside = (refl, refl);

@@ -4,7 +4,7 @@ use mathlib.Core.Path.{_≡_, refl, sym, ap, _∙_}
 use mathlib.Core.Logic.{inl, inr}
 use mathlib.Core.Bool.{true, false, not}
 use mathlib.Core.List.{List}
-use Prim.Native.Nat.{ℕ, _+_, _*_, _-_, _<_, _≤_}
+use Prim.Native.Nat.{ℕ, _+_, _*_, _-_, _%_, _<_, _≤_}
 use native.Mathlib.Omega.{arith}
 use lib.Dec.{leb, ltb}
 use lib.ListN.{length, getD, set}
@@ -20,7 +20,7 @@ use Rattle.node.specs.Layout.{nodeAt}
 use Rattle.node.specs.Rep.{Stands}
 use Rattle.node.specs.Paths.{longestWay}
 use Rattle.node.proofs.Paths.{noted}
-use Rattle.node.proofs.Seats.{nearSeat}
+use Rattle.node.proofs.Seats.{nearOf}
 use Rattle.search.specs.Search.{Marks, Walked}
 use Rattle.search.proofs.Look.{Inner, leaf-here, inner-here, top-here, lo-here}
 
@@ -47,12 +47,12 @@ marks-noted m ws d x j (marked u) l g =
     record { deep = g .deep; right = rw q (g .right); stands = rw q (g .stands) }
 
 -- a left child is marked, or not, where its right sibling is noted
-marks-passed : (m ws : List ℕ) (f d q x j i : ℕ) (k : Deepest) (l : Tree) → d + 1 < length ws → j ≤ d → x ≡ 2 * q + 1 → Stands m (2 * q) l → Marks m ws j k
+marks-passed : (m ws : List ℕ) (f d q x j i : ℕ) (k : Deepest) (l : Tree) → d + 1 < length ws → j ≤ d → q % 8 ≡ 0 → x ≡ q + 4 → Stands m q l → Marks m ws j k
     → i ≡ pick (leb f (top l)) (d + 1) j → Marks m (set ws (d + 1) x) i (pick (leb f (top l)) (marked l) k)
-marks-passed m ws f d q x j i k l h u ex s g ei = elim (case-le f (top l)) [
+marks-passed m ws f d q x j i k l h u a ex s g ei = elim (case-le f (top l)) [
   | inl z ↦ let p : i ≡ d + 1 = rw (z .1) at ei in
-      let o : getD (set ws (d + 1) x) (d + 1) 0 ≡ 2 * q + 1 = getD-set-same ws (d + 1) x 0 h ∙ ex in
-      let b : 2 * q + 1 - 1 ≡ 2 * q = omega arith in
+      let o : getD (set ws (d + 1) x) (d + 1) 0 ≡ q + 4 = getD-set-same ws (d + 1) x 0 h ∙ ex in
+      let b : q + 4 - 4 ≡ q = omega arith in
       rw (z .1, p) (record { deep = omega arith; right = rw o (omega arith); stands = rw (o, b) s })
   | inr z ↦ let p : i ≡ j = rw (z .1) at ei in rw (z .1, p) (marks-noted m ws d x j k u g)
 ]
@@ -64,7 +64,7 @@ module _ (m : List ℕ) (r f : ℕ) (t : Tree) (ws : List ℕ) (d j v : ℕ) (o 
   module _ (u : ℕ) (e : u ≡ nodeAt m (getD ws d 0) .place) where
     -- a step: y and z are the nodes on the right and on the left
     module _ (h : u ≡ 0 → ⊥) (deep : d + 1 < length ws) (turn : j ≤ d)
-        (p : ℕ) (ep : p ≡ nearSeat false u) (y : Node) (ey : y ≡ nodeAt m p) (q : ℕ) (eq : q ≡ nearSeat true u) (z : Node) (ez : z ≡ nodeAt m q) where
+        (p : ℕ) (ep : p ≡ nearOf false u) (y : Node) (ey : y ≡ nodeAt m p) (q : ℕ) (eq : q ≡ nearOf true u) (z : Node) (ez : z ≡ nodeAt m q) where
       inner : Inner m u (o .here)
       inner = inner-here e h (o .here) (o .reached)
 
@@ -74,31 +74,31 @@ module _ (m : List ℕ) (r f : ℕ) (t : Tree) (ws : List ℕ) (d j v : ℕ) (o 
       passed-top : z .top ≡ top (inner .left)
       passed-top = top-here (ez ∙ ap (nodeAt m) eq) (inner .child true)
 
-      before : OnWay r f t (node u (inner .left) (inner .right)) (o .mark) v
+      before : OnWay r f t (node (inner .label) (inner .left) (inner .right)) (o .mark) v
       before = rw (inner .is) at (o .way)
 
-      on-left : (x i a : ℕ) → (r + 1) * perTick ≤ y .lo → x ≡ nearSeat true u → i ≡ j → a ≡ 1 → On m r f t (set ws (d + 1) x) (d + 1) i (v + a)
+      on-left : (x i a : ℕ) → (r + 1) * perTick ≤ y .lo → x ≡ nearOf true u → i ≡ j → a ≡ 1 → On m r f t (set ws (d + 1) x) (d + 1) i (v + a)
       on-left x i a g ex ei ea =
           record {
             here = inner .left;
             mark = o .mark;
             reached = rw (getD-set-same ws (d + 1) x 0 deep, ex) (inner .child true);
             marks = rw ei (marks-noted m ws d x j (o .mark) turn (o .marks));
-            way = rw ea (way-left r f t u (inner .left) (inner .right) (o .mark) v before (key-after _ r (omega (arith, split))));
+            way = rw ea (way-left r f t (inner .label) (inner .left) (inner .right) (o .mark) v before (key-after _ r (omega (arith, split))));
           }
 
-      on-right : (x i a : ℕ) → y .lo < (r + 1) * perTick → x ≡ nearSeat false u → i ≡ pick (leb f (z .top)) (d + 1) j → a ≡ 2 → On m r f t (set ws (d + 1) x) (d + 1) i (v + a)
+      on-right : (x i a : ℕ) → y .lo < (r + 1) * perTick → x ≡ nearOf false u → i ≡ pick (leb f (z .top)) (d + 1) j → a ≡ 2 → On m r f t (set ws (d + 1) x) (d + 1) i (v + a)
       on-right x i a g ex ei ea =
           record {
             here = inner .right;
             mark = pick (leb f (top (inner .left))) (marked (inner .left)) (o .mark);
             reached = rw (getD-set-same ws (d + 1) x 0 deep, ex) (inner .child false);
-            marks = marks-passed m ws f d u x j i (o .mark) (inner .left) deep turn ex (inner .child true) (o .marks) (rw passed-top at ei);
-            way = rw ea (way-right r f t u (inner .left) (inner .right) (o .mark) v before (key-before _ r (omega (arith, split))));
+            marks = marks-passed m ws f d u x j i (o .mark) (inner .left) deep turn (omega (arith, inner .at)) ex (inner .child true) (o .marks) (rw passed-top at ei);
+            way = rw ea (way-right r f t (inner .label) (inner .left) (inner .right) (o .mark) v before (key-before _ r (omega (arith, split))));
           }
 
       -- to the seat x, with the mark i and a visits more: right exactly if the earliest start there is at or before r
-      pub on-next : (x : ℕ) → x ≡ nearSeat (not (ltb (y .lo) ((r + 1) * perTick))) u
+      pub on-next : (x : ℕ) → x ≡ nearOf (not (ltb (y .lo) ((r + 1) * perTick))) u
           → (i : ℕ) → i ≡ pick (ltb (y .lo) ((r + 1) * perTick)) (pick (leb f (z .top)) (d + 1) j) j
           → (a : ℕ) → a ≡ pick (ltb (y .lo) ((r + 1) * perTick)) 2 1
           → On m r f t (set ws (d + 1) x) (d + 1) i (v + a)

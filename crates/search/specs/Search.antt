@@ -45,8 +45,8 @@ pub record Prolonged (m : List ℕ) (i : ℕ) (ws ws′ : List ℕ) (n s : ℕ) 
 -- x stands on the left of the node noted j steps down
 pub record Beside (m ws : List ℕ) (j : ℕ) (x : Tree) : Type 0 where
   pub deep : 1 ≤ j
-  pub right : getD ws j 0 % 2 ≡ 1
-  pub stands : Stands m (getD ws j 0 - 1) x
+  pub right : getD ws j 0 % 8 ≡ 4
+  pub stands : Stands m (getD ws j 0 - 4) x
 
 -- the mark of a way is beside that node of it, or there is none
 abbrev pub Marks : (m ws : List ℕ) → (mark : ℕ) → Deepest → Type 0
@@ -62,8 +62,8 @@ pub record Walked (m : List ℕ) (r f : ℕ) (t : Tree) (ws : List ℕ) (w : Way
 
 -- the left sibling of the node noted j steps down has the place b, and its ways down fit
 pub record Under (m ws : List ℕ) (j b : ℕ) : Type 0 where
-  pub is : b ≡ nodeAt m (getD ws j 0 - 1) .place
-  pub room : nodeAt m (getD ws j 0 - 1) .height + j < longestWay
+  pub is : b ≡ nodeAt m (getD ws j 0 - 4) .place
+  pub room : nodeAt m (getD ws j 0 - 4) .height + j < longestWay
 
 -- the way walked is noted, and the mark, whose children's place is noted too, is beside a node of it
 pub record Trodden (m : List ℕ) (root : ℕ) (ws : List ℕ) (w : Way) : Type 0 where

@@ -247,7 +247,7 @@ pub fn search(mem: &[u8], root: usize, r: u64, f: u64, way: &mut [u16], far: &mu
     }
     let mark = w.mark;
     if mark != 0 {
-        let seat = way[mark] as usize - 1;
+        let seat = way[mark] as usize - node::NODE_WORDS;
         way[mark] = seat as u16;
         let mut noted = mark;
         let d = descend(mem, w.below, f, way, mark, &mut noted);

@@ -29,8 +29,8 @@ over-by false x y q h eh = let a : h ≡ max (y .height) (x .height) = omega ari
 pub read-at : (m : List ℕ) {n : Node} {s t : ℕ} → s ≡ t → n ≡ nodeAt m s → n ≡ nodeAt m t
 read-at m e r = rw e at r
 
-module _ (m : List ℕ) (p q : ℕ) (n x y s : Node) (en : n ≡ nodeAt m p) (ex : x ≡ nodeAt m (2 * q)) (ey : y ≡ nodeAt m (2 * q + 1)) (es : s ≡ summedNode n x y) where
-  is : s ≡ summedNode (nodeAt m p) (nodeAt m (2 * q)) (nodeAt m (2 * q + 1))
+module _ (m : List ℕ) (p q : ℕ) (n x y s : Node) (en : n ≡ nodeAt m p) (ex : x ≡ nodeAt m q) (ey : y ≡ nodeAt m (q + 4)) (es : s ≡ summedNode n x y) where
+  is : s ≡ summedNode (nodeAt m p) (nodeAt m q) (nodeAt m (q + 4))
   is = rw (← en, ← ex, ← ey) es
 
   pub sums-none : SameSums n s → Sums p q false m m

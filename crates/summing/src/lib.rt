@@ -35,7 +35,7 @@ fn summed(left: bool, n: Node, x: Node, y: Node) -> Node
     }
 }
 
-// The node over two others, which stand at place q, x on the side named.
+// The node over two others, x on the side named, which stand at the place with the left seat q.
 pub fn over(left: bool, x: Node, y: Node, q: u64) -> Node
     requires { ⌜ (x .height < halfWord - 1) × (y .height < halfWord - 1) ⌝ }
     ensures { λ n. ⌜ n ≡ overNode (near left x y) (far left x y) q ⌝ }
@@ -50,7 +50,7 @@ pub fn over(left: bool, x: Node, y: Node, q: u64) -> Node
     summed(left, bare, x, y)
 }
 
-// Writes the node at seat s over the nodes at place q.
+// Writes the node at seat s over the nodes at seat q and beside it.
 pub fn mend(mem: &mut [u8], s: usize, q: u64)
     requires { ⌜ Mendable (now mem) s q ⌝ }
     ensures { λ _. ⌜ Over s q (now (mem .entry)) (now (mem .exit)) ⌝ }
@@ -72,7 +72,7 @@ fn alike(x: Node, y: Node) -> bool
     x.low == y.low
 }
 
-// Sums up the nodes at place q anew, in the node at seat s over them. Whether that changed anything.
+// Sums up the nodes at seat q and beside it anew, in the node at seat s over them. Whether that changed anything.
 pub fn sum_up(mem: &mut [u8], s: usize, q: u64) -> bool
     requires { ⌜ Summable (now mem) s q ⌝ }
     ensures { λ b. ⌜ Sums s q b (now (mem .entry)) (now (mem .exit)) ⌝ }

@@ -1,22 +1,22 @@
 -- The survey, a step at a time: what each of its answers says of the trees that it could have taken.
-use mathlib.Core.Path.{_≡_, refl, sym, ap, _∙_}
+use mathlib.Core.Path.{_≡_, refl, sym, ap, subst, _∙_}
 use mathlib.Core.Bool.{Bool, true, false}
 use mathlib.Core.List.{List}
-use Prim.Native.Nat.{ℕ, _+_, _*_, _-_, _<_, _≤_}
+use Prim.Native.Nat.{ℕ, _+_, _*_, _-_, _/_, _<_, _≤_}
 use native.Mathlib.Decide.{decLt}
 use native.Mathlib.Omega.{arith}
 use Rattle.shape.specs.Tree.{Tree, leaf, node, height, size, uses}
 use Rattle.shape.specs.TreeLaws.{size-some}
 use Rattle.shape.specs.PlaceLaws.{same-is, uses-place}
 use Rattle.node.specs.declared.Node.{Node}
-use Rattle.node.specs.Layout.{Within, nodeAt}
+use Rattle.node.specs.Layout.{Within, nodeAt, overNode}
 use Rattle.node.specs.Rep.{nodeOf, Rep, Stands}
 use Rattle.node.proofs.Reps.{heightOf, within, left-stands, right-stands, one-tree}
 use Rattle.node.proofs.Seats.{reads}
 use Rattle.survey.specs.declared.Progress.{Progress}
 use Rattle.inspect.specs.Inspect.{Joined, Leaf}
 use Rattle.inspect.proofs.Inspecting.{leaf-single, over-joined}
-use Rattle.survey.specs.Survey.{next, run, Good, Taken, Surveyed}
+use Rattle.survey.specs.Survey.{Seated, next, run, Good, Taken, Surveyed}
 use Rattle.settled.proofs.Saying.{says-yes, says-no}
 
 -- ---- a survey of a seat
@@ -66,14 +66,14 @@ module _ (m : List ℕ) (n c f : ℕ) (x : List ℕ) (seat limit a b : ℕ) wher
         }
 
     -- a node, whose place is one of the n
-    pub placed : (k .height ≡ 0 → ⊥) → (t : Tree) → Taken m n c f x seat limit a b t → (1 ≤ k .place) × (k .place < n)
-    placed nz (leaf i e) w = absurd (nz (ap heightOf (seen (leaf i e) w)))
-    placed nz (node q l r) w =
+    pub seated : (k .height ≡ 0 → ⊥) → (t : Tree) → Taken m n c f x seat limit a b t → Seated n (k .place)
+    seated nz (leaf i e) w = absurd (nz (ap heightOf (seen (leaf i e) w)))
+    seated nz (node q l r) w =
         let e = ap (λ (v : Node). v .place) (seen (node q l r) w) in
-        (omega (arith, within (left-stands (w .stands)) .1), omega (arith, w .inside q (uses-place q l r)))
+        record { some = omega (arith, within (left-stands (w .stands)) .1); whole = omega arith; less = omega (arith, w .inside q (uses-place q l r)) }
 
     -- and whose left child the survey s has seen, at the seat i
-    module _ (y : List ℕ) (s : Progress) (i : ℕ) (ei : i ≡ 2 * k .place) (nz : k .height ≡ 0 → ⊥) (some : b ≡ 0 → ⊥) (left : Surveyed m n c f x y i (k .height) a (b - 1) s) where
+    module _ (y : List ℕ) (s : Progress) (i : ℕ) (ei : i ≡ k .place) (nz : k .height ≡ 0 → ⊥) (some : b ≡ 0 → ⊥) (left : Surveyed m n c f x y i (k .height) a (b - 1) s) where
       child-l : (q : ℕ) (l r : Tree) → Taken m n c f x seat limit a b (node q l r) → Taken m n c f x i (k .height) a (b - 1) l
       unfolding Good
       child-l q l r w =
@@ -94,7 +94,7 @@ module _ (m : List ℕ) (n c f : ℕ) (x : List ℕ) (seat limit a b : ℕ) wher
           go (node q l r) w = left .no z l (child-l q l r w)
 
       -- and whose right child the survey u has, at the seat j
-      module _ (z : List ℕ) (u : Progress) (j : ℕ) (ej : j ≡ 2 * k .place + 1) (found : s .next ≡ 0 → ⊥) (right : Surveyed m n c f y z j (k .height) (s .next) (s .left) u) where
+      module _ (z : List ℕ) (u : Progress) (j : ℕ) (ej : j ≡ k .place + 4) (found : s .next ≡ 0 → ⊥) (right : Surveyed m n c f y z j (k .height) (s .next) (s .left) u) where
         child-r : (q : ℕ) (l r : Tree) → Taken m n c f x seat limit a b (node q l r) → Taken m n c f y j (k .height) (s .next) (s .left) r
         unfolding Good
         child-r q l r w =
@@ -127,7 +127,7 @@ module _ (m : List ℕ) (n c f : ℕ) (x : List ℕ) (seat limit a b : ℕ) wher
               go (node q l r) d =
                   let sv = reads m i v ev (child-l q l r d .stands) in
                   let sw = reads m j w ew (child-r q l r d .stands) in
-                  not (rw (sv, sw) (over-joined k (nodeOf l) (nodeOf r) q (seen (node q l r) d) (d .good .2)))
+                  not (rw (sv, sw) (over-joined k (nodeOf l) (nodeOf r) (8 * q) (seen (node q l r) d) (d .good .2)))
 
           -- what the test of the two asks, and what it gives
           module _ (found′ : u .next ≡ 0 → ⊥) where
@@ -140,24 +140,26 @@ module _ (m : List ℕ) (n c f : ℕ) (x : List ℕ) (seat limit a b : ℕ) wher
             pub lower : (v .height < k .height) × (w .height < k .height)
             lower = omega (arith, ap heightOf left-at, ap heightOf right-at, left .yes found .1 .low, right .yes found′ .1 .low)
 
-            pub node-yes : k .place < n → Within m seat → k .height < limit → Joined k v w → Surveyed m n c f x z seat limit a b u
+            pub node-yes : Seated n (k .place) → Within m seat → k .height < limit → Joined k v w → Surveyed m n c f x z seat limit a b u
             unfolding Good Rep next run
             node-yes inside wi h joined =
                 let d = left .yes found in
                 let g = right .yes found′ in
                 let sv = left-at in
                 let sw = right-at in
-                let over : nodeAt m seat ≡ nodeOf (node (k .place) (d .0) (g .0)) = sym ek ∙ (joined .over ∙ (rw (sv, sw))) in
-                let fl : Stands m (2 * k .place) (d .0) = rw ei at (d .1 .stands) in
-                let fr : Stands m (2 * k .place + 1) (g .0) = rw ej at (g .1 .stands) in
+                let q = k .place / 8 in
+                let at : k .place ≡ 8 * q = omega (arith, inside .whole) in
+                let over : nodeAt m seat ≡ nodeOf (node q (d .0) (g .0)) = sym ek ∙ (joined .over ∙ (ap (overNode v w) at ∙ (rw (sv, sw)))) in
+                let fl : Stands m (8 * q) (d .0) = subst (λ z. Stands m z (d .0)) (ei ∙ at) (d .1 .stands) in
+                let fr : Stands m (8 * q + 4) (g .0) = subst (λ z. Stands m z (g .0)) (ej ∙ ap (λ z. z + 4) at) (g .1 .stands) in
                 record {
                   yes = λ _. (
-                    node (k .place) (d .0) (g .0),
+                    node q (d .0) (g .0),
                     record {
                       stands = record { rep = (wi, over, fl .rep, fr .rep) };
-                      inside = λ q e. elim (decLt 0 (uses q (d .0))) [
-                        | yes o ↦ d .1 .inside q o
-                        | no o ↦ elim (decLt 0 (uses q (g .0))) [ yes o′ ↦ g .1 .inside q o′ | no o′ ↦ omega (arith, same-is q (k .place) (omega arith)) ]
+                      inside = λ p e. elim (decLt 0 (uses p (d .0))) [
+                        | yes o ↦ d .1 .inside p o
+                        | no o ↦ elim (decLt 0 (uses p (g .0))) [ yes o′ ↦ g .1 .inside p o′ | no o′ ↦ omega (arith, inside .less, same-is p q (omega arith)) ]
                       ];
                       low = omega (arith, ap heightOf (ek ∙ over));
                       few = omega (arith, d .2 .left, g .1 .few);

@@ -2,12 +2,12 @@
 -- `ends` has one more than the last end seen of each channel; `after` is one more than the last key seen.
 use mathlib.Core.Path.{_≡_}
 use mathlib.Core.List.{List}
-use Prim.Native.Nat.{ℕ, _+_, _*_, _≤_, _<_}
+use Prim.Native.Nat.{ℕ, _+_, _*_, _%_, _≤_, _<_}
 use lib.ListN.{length, getD, set}
 use Rattle.rule.specs.Moments.{lastMoment}
 use Rattle.rule.specs.Key.{channelOf}
 use Rattle.shape.specs.Tree.{Tree, leaf, node, height, size, uses}
-use Rattle.node.specs.Layout.{bytesFor}
+use Rattle.node.specs.Layout.{bytesFor, mostPlaces}
 use Rattle.node.specs.Rep.{Stands}
 use Rattle.inspect.specs.Inspect.{Near, NextVoid}
 use Rattle.survey.specs.declared.Progress.{Progress}
@@ -15,11 +15,18 @@ use Rattle.survey.specs.declared.Progress.{Progress}
 -- what a survey of a seat may count on: n places in the memory, the seat one of theirs or the root's, an end for each channel, a floor that is a moment
 pub record Reach (m x : List ℕ) (n channels floor seat : ℕ) : Type 0 where
   pub long : bytesFor n ≤ length m
-  pub small : n ≤ 32768
-  pub least : 1 ≤ seat
-  pub most : seat < 2 * n
+  pub small : n ≤ mostPlaces
+  pub least : 4 ≤ seat
+  pub most : seat < 8 * n
+  pub whole : seat % 4 ≡ 0
   pub ends : channels ≤ length x
   pub most-floor : floor ≤ lastMoment
+
+-- the number is the left seat of one of n places, and not of the root's
+pub record Seated (n first : ℕ) : Type 0 where
+  pub some : 1 ≤ first
+  pub whole : first % 8 ≡ 0
+  pub less : first < 8 * n
 
 -- ---- a tree
 -- one more than the last key

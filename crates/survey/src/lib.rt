@@ -5,9 +5,10 @@ ghost use mathlib.Core.Path.{_≡_};
 ghost use Prim.Native.Nat.{ℕ, _+_, _*_, _≤_, _<_};
 ghost use lib.ListN.{length, getD};
 ghost use Rattle.rule.specs.Moments.{openEnd};
+ghost use Rattle.node.specs.Layout.{mostPlaces};
 ghost use Rattle.settled.specs.Says.{Says};
 ghost use Rattle.settled.specs.Settled.{Settled};
-ghost use Rattle.survey.specs.Survey.{Surveyed, Reach};
+ghost use Rattle.survey.specs.Survey.{Surveyed, Reach, Seated};
 ghost use Rattle.survey.specs.Planted.{Planted};
 use rule::moments::OPEN_END;
 
@@ -15,6 +16,23 @@ use rule::moments::OPEN_END;
 pub struct Progress {
     pub next: u64,
     pub left: u64,
+}
+
+// Whether a node's children stand at a place of the link's, of which there are so many: it has the left seat there.
+fn placed(places: u64, first: u64) -> bool
+    requires { ⌜ places ≤ mostPlaces ⌝ }
+    ensures { λ b. ⌜ Says (Seated places first) b ⌝ }
+{
+    if first == 0 {
+        return false;
+    }
+    if first % node::PLACE_WORDS != 0 {
+        return false;
+    }
+    if node::PLACE_WORDS * places <= first {
+        return false;
+    }
+    true
 }
 
 // Surveys the tree at a seat, of a height below the limit, with keys from `after` on.
@@ -48,10 +66,7 @@ fn survey(
         let next = n.lo + 1;
         return Progress { next, left };
     }
-    if n.place == 0 {
-        return Progress { next: 0, left };
-    }
-    if places <= n.place {
+    if !placed(places, n.place) {
         return Progress { next: 0, left };
     }
     let l = node::near(true, n.place);

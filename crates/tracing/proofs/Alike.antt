@@ -16,7 +16,7 @@ use Rattle.node.specs.declared.Node.{Node}
 use Rattle.node.specs.Layout.{nodeAt}
 use Rattle.node.specs.Rep.{Stands}
 use Rattle.node.proofs.Reps.{tall}
-use Rattle.node.proofs.Seats.{nearSeat, farSeat, children}
+use Rattle.node.proofs.Seats.{nearOf, farOf, children}
 use Rattle.tracing.specs.Ways.{Leads, Way}
 
 abbrev pub Alike : (t u : Tree) → Type 0
@@ -73,13 +73,13 @@ module _ (m m′ : List ℕ) (k w x : ℕ) (L : Leads m k w x) where
   step (node p l r) (node q l′ r′) f g a =
       let n = nodeAt m w in
       let n′ = nodeAt m′ w in
-      let s = ltb k (nodeAt m (2 * n .place + 1) .lo) in
-      let c = children m w n refl s x (farSeat s (n .place)) p l r (L .to) refl f in
-      let d = children m′ w n′ refl true (nearSeat true (n′ .place)) (farSeat true (n′ .place)) q l′ r′ refl refl g in
-      let e : n′ .place ≡ n .place = d .at ∙ (sym (a .0) ∙ sym (c .at)) in
-      let v : nodeAt m′ (2 * n′ .place + 1) .lo ≡ nodeAt m (2 * n .place + 1) .lo = d .split ∙ (sym (alike-lo r r′ (a .2)) ∙ sym (c .split)) in
-      let to : x ≡ nearSeat s (n′ .place) = rw e (L .to) in
-      let c′ = children m′ w n′ refl s x (farSeat s (n′ .place)) q l′ r′ to refl g in
+      let s = ltb k (nodeAt m (n .place + 4) .lo) in
+      let c = children m w n refl s x (farOf s (n .place)) p l r (L .to) refl f in
+      let d = children m′ w n′ refl true (nearOf true (n′ .place)) (farOf true (n′ .place)) q l′ r′ refl refl g in
+      let e : n′ .place ≡ n .place = d .at ∙ (ap (λ (z : ℕ). 8 * z) (sym (a .0)) ∙ sym (c .at)) in
+      let v : nodeAt m′ (n′ .place + 4) .lo ≡ nodeAt m (n .place + 4) .lo = d .split ∙ (sym (alike-lo r r′ (a .2)) ∙ sym (c .split)) in
+      let to : x ≡ nearOf s (n′ .place) = rw e (L .to) in
+      let c′ = children m′ w n′ refl s x (farOf s (n′ .place)) q l′ r′ to refl g in
       record {
         leads = record {
           inner = λ z. L .inner (tall f ∙ (alike-height (node p l r) (node q l′ r′) a ∙ (sym (tall g) ∙ z)));

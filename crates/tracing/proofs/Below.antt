@@ -3,7 +3,7 @@
 use mathlib.Core.Path.{_≡_, ap, _∙_}
 use mathlib.Core.Bool.{Bool}
 use mathlib.Core.List.{List}
-use Prim.Native.Nat.{ℕ, _/_, _<_}
+use Prim.Native.Nat.{ℕ, _*_, _/_, _<_}
 use native.Mathlib.Omega.{arith}
 use Rattle.shape.specs.Tree.{Tree, leaf, node, same}
 use Rattle.shape.specs.Side.{near}
@@ -12,7 +12,7 @@ use Rattle.shape.specs.EvenLaws.{kids}
 use Rattle.node.specs.declared.Node.{Node}
 use Rattle.node.specs.Layout.{Within, nodeAt}
 use Rattle.node.proofs.Reps.{tall, within}
-use Rattle.node.proofs.Seats.{nearSeat, farSeat, near-half, reads-height, Children, children}
+use Rattle.node.proofs.Seats.{nearOf, farOf, near-half, near-is, reads-height, Children, children}
 use Rattle.tracing.specs.Alone.{Sole, Alone}
 
 pub within-alone : (m : List ℕ) (t : ℕ) → Alone m t → Within m t
@@ -20,13 +20,13 @@ within-alone m t g = within (g .1 .stands)
 
 -- ---- at an inner node, with a side
 module _ (m : List ℕ) (t : ℕ) (n : Node) (e : n ≡ nodeAt m t) (nz : n .height ≡ 0 → ⊥)
-    (s : Bool) (x y : ℕ) (ex : x ≡ nearSeat s (n .place)) (ey : y ≡ farSeat s (n .place)) where
+    (s : Bool) (x y : ℕ) (ex : x ≡ nearOf s (n .place)) (ey : y ≡ farOf s (n .place)) where
   pub below : (q : ℕ) (l r : Tree) → Sole m t (node q l r) → Children m t n e s x y q l r
   below q l r g = children m t n e s x y q l r ex ey (g .stands)
 
   -- the near seat is at the node's place
-  half : (q : ℕ) → n .place ≡ q → x / 2 ≡ q
-  half q h = ap (λ (z : ℕ). z / 2) ex ∙ near-half s (n .place) ∙ h
+  half : (q : ℕ) → n .place ≡ 8 * q → x / 8 ≡ q
+  half q h = ap (λ (z : ℕ). z / 8) (ex ∙ near-is s q h) ∙ near-half s q
 
   pub sole-near : (q : ℕ) (l r : Tree) → Sole m t (node q l r) → Sole m x (near s l r)
   sole-near q l r g =

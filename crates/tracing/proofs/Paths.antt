@@ -4,7 +4,7 @@ use mathlib.Core.Path.{_≡_, refl, ap}
 use mathlib.Core.Logic.{_⊎_, inl, inr}
 use mathlib.Core.Bool.{Bool, true, false}
 use mathlib.Core.List.{List}
-use Prim.Native.Nat.{ℕ, zero, suc, _+_, _*_, _/_, _≤_, _<_}
+use Prim.Native.Nat.{ℕ, zero, suc, _+_, _*_, _/_, _%_, _≤_, _<_}
 use native.Mathlib.Decide.{ℕ-discrete}
 use native.Mathlib.Omega.{arith}
 use lib.Dec.{ltb}
@@ -17,13 +17,13 @@ use Rattle.node.specs.Layout.{nodeAt}
 use Rattle.node.specs.Rep.{Stands}
 use Rattle.node.specs.Paths.{longestWay, Down}
 use Rattle.node.proofs.Reps.{seen, tall, one-tree}
-use Rattle.node.proofs.Seats.{nearSeat, farSeat, children}
+use Rattle.node.proofs.Seats.{nearOf, farOf, children}
 use Rattle.tracing.specs.Alone.{Sole}
 use Rattle.tracing.specs.Ways.{Leads, Way, Partway}
 
 -- a seat of a place is its left or its right one
-sides : (x q : ℕ) → x / 2 ≡ q → (x ≡ nearSeat true q) ⊎ (x ≡ nearSeat false q)
-sides x q h = elim (ℕ-discrete x (2 * q)) [ yes e ↦ inl e | no n ↦ inr (omega arith) ]
+sides : (x w : ℕ) → x % 4 ≡ 0 → 8 * (x / 8) ≡ w → (x ≡ nearOf true w) ⊎ (x ≡ nearOf false w)
+sides x w v h = elim (ℕ-discrete x w) [ yes e ↦ inl e | no n ↦ inr (omega arith) ]
 
 module _ (m : List ℕ) (t d : ℕ) (ws : List ℕ) (D : Down m t d ws) where
   abbrev at : ℕ → ℕ
@@ -39,9 +39,9 @@ module _ (m : List ℕ) (t d : ℕ) (ws : List ℕ) (D : Down m t d ws) where
 
     -- the least key on the right of the node at w
     abbrev split : ℕ → ℕ
-    split w = nodeAt m (2 * nodeAt m w .place + 1) .lo
+    split w = nodeAt m (nodeAt m w .place + 4) .lo
 
-    leads-to : (w x : ℕ) (s : Bool) → (nodeAt m w .height ≡ 0 → ⊥) → ltb K (split w) ≡ s → x ≡ nearSeat s (nodeAt m w .place) → Leads m K w x
+    leads-to : (w x : ℕ) (s : Bool) → (nodeAt m w .height ≡ 0 → ⊥) → ltb K (split w) ≡ s → x ≡ nearOf s (nodeAt m w .place) → Leads m K w x
     leads-to w x s n es e = record { inner = n; to = rw es e }
 
     from : (n i : ℕ) → n + i ≡ d → (tr : Tree) (a b : ℕ) → Stands m (at i) tr → Ord a b tr → From i a b
@@ -50,12 +50,12 @@ module _ (m : List ℕ) (t d : ℕ) (ws : List ℕ) (D : Down m t d ws) where
         let B = base tr a b (rw q at s) o in
         record { low = B .0; high = B .1; leads = λ j h l. absurd (omega arith) }
     from (suc n) i e (leaf k f) a b s o = absurd (D .steps i (omega arith) .inner (tall s))
-    from (suc n) i e (node p l r) a b s o = elim (sides (at (suc i)) (nodeAt m (at i) .place) (D .steps i (omega arith) .is)) [
-      | inl q ↦ let c = children m (at i) (nodeAt m (at i)) refl true (at (suc i)) (farSeat true (nodeAt m (at i) .place)) p l r q refl s in
+    from (suc n) i e (node p l r) a b s o = elim (sides (at (suc i)) (nodeAt m (at i) .place) (D .steps i (omega arith) .seat) (D .steps i (omega arith) .is)) [
+      | inl q ↦ let c = children m (at i) (nodeAt m (at i)) refl true (at (suc i)) (farOf true (nodeAt m (at i) .place)) p l r q refl s in
           let F = from n (suc i) (omega arith) l a (lo r) (c .near-at) (o .0) in
           let h : ltb K (split (at i)) ≡ true = lt-ltb K (split (at i)) (omega (arith, F .high, c .split)) in
           record { low = F .low; high = omega (arith, F .high, lo-in (lo r) b r (o .1)); leads = next F (leads-to (at i) (at (suc i)) true (D .steps i (omega arith) .inner) h q) }
-      | inr q ↦ let c = children m (at i) (nodeAt m (at i)) refl false (at (suc i)) (farSeat false (nodeAt m (at i) .place)) p l r q refl s in
+      | inr q ↦ let c = children m (at i) (nodeAt m (at i)) refl false (at (suc i)) (farOf false (nodeAt m (at i) .place)) p l r q refl s in
           let F = from n (suc i) (omega arith) r (lo r) b (c .near-at) (o .1) in
           let h : ltb K (split (at i)) ≡ false = le-ltb K (split (at i)) (omega (arith, F .low, c .split)) in
           record { low = omega (arith, F .low, lo-in a (lo r) l (o .0)); high = F .high; leads = next F (leads-to (at i) (at (suc i)) false (D .steps i (omega arith) .inner) h q) }

@@ -15,7 +15,7 @@ use Rattle.tracing.specs.Alone.{Alone}
 use Rattle.tracing.specs.Ways.{Leads, Way, Partway}
 use Rattle.node.proofs.Reps.{tall}
 use Rattle.node.proofs.Paths.{noted, noted-here}
-use Rattle.node.proofs.Seats.{nearSeat, farSeat, small-place}
+use Rattle.node.proofs.Seats.{nearOf, farOf, small-place}
 use Rattle.tracing.proofs.Below.{within-alone, down}
 
 -- the way is noted down to the seat `at`, d steps below t, where the node n was read
@@ -39,7 +39,7 @@ module _ (m : List ℕ) (t k : ℕ) (ws : List ℕ) (d : ℕ) (P : Partway m t k
   noted-at (suc i) h =
       let A = noted-at i (omega arith) in
       let L = P .leads i (omega arith) in
-      let D = down m (getD ws i 0) (nodeAt m (getD ws i 0)) refl (L .inner) (ltb k (nodeAt m (2 * nodeAt m (getD ws i 0) .place + 1) .lo)) (getD ws (suc i) 0) _ (L .to) refl (A .0) in
+      let D = down m (getD ws i 0) (nodeAt m (getD ws i 0)) refl (L .inner) (ltb k (nodeAt m (nodeAt m (getD ws i 0) .place + 4) .lo)) (getD ws (suc i) 0) _ (L .to) refl (A .0) in
       (D .near-alone, omega (arith, A .1, D .lower))
 
   pub noted-low : (d < longestWay) × (d < length ws)
@@ -73,12 +73,12 @@ module _ (m : List ℕ) (t k : ℕ) (ws0 ws : List ℕ) (at d : ℕ) (n : Node) 
   pub place-small : n .place < 65536
   place-small = small-place m at n (T .read) (T .alone .1 .stands)
 
-  pub right-in : (n .height ≡ 0 → ⊥) → (y : ℕ) → y ≡ farSeat true (n .place) → Within m y
+  pub right-in : (n .height ≡ 0 → ⊥) → (y : ℕ) → y ≡ farOf true (n .place) → Within m y
   right-in nz y ey = down m at n (T .read) nz true _ y refl ey (T .alone) .far-in
 
   -- v is the node on the right, and x the seat that its least key leads to
-  module _ (nz : n .height ≡ 0 → ⊥) (y : ℕ) (ey : y ≡ farSeat true (n .place)) (v : Node) (ev : v ≡ nodeAt m y)
-      (x : ℕ) (ex : x ≡ nearSeat (ltb k (v .lo)) (n .place)) where
+  module _ (nz : n .height ≡ 0 → ⊥) (y : ℕ) (ey : y ≡ farOf true (n .place)) (v : Node) (ev : v ≡ nodeAt m y)
+      (x : ℕ) (ex : x ≡ nearOf (ltb k (v .lo)) (n .place)) where
     abbrev D : Type 0
     D = Alone m x × (nodeAt m x .height < nodeAt m at .height)
 

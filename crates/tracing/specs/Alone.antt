@@ -9,7 +9,7 @@ use Rattle.node.specs.Rep.{Stands}
 -- the tree stands at the seat t, balanced and low; no place is used twice: not by the tree, nor by t, nor by the further places that n counts
 pub record Standing (n : ℕ → ℕ) (m : List ℕ) (t : ℕ) (tr : Tree) : Type 0 where
   pub stands : Stands m t tr
-  pub once : (z : ℕ) → same z (t / 2) + uses z tr + n z ≤ 1
+  pub once : (z : ℕ) → same z (t / 8) + uses z tr + n z ≤ 1
   pub even : Balanced tr
   pub low : height tr < longestWay
 

@@ -13,7 +13,7 @@ use Rattle.tracing.specs.Alone.{Alone}
 -- from the inner node at w the key leads to the seat x: to the left exactly if it is below the least key on the right
 pub record Leads (m : List ℕ) (k w x : ℕ) : Type 0 where
   pub inner : nodeAt m w .height ≡ 0 → ⊥
-  pub to : x ≡ near (ltb k (nodeAt m (2 * nodeAt m w .place + 1) .lo)) (2 * nodeAt m w .place) (2 * nodeAt m w .place + 1)
+  pub to : x ≡ near (ltb k (nodeAt m (nodeAt m w .place + 4) .lo)) (nodeAt m w .place) (nodeAt m w .place + 4)
 
 -- the first d + 1 seats of the list are the way of the key from t down to a leaf
 pub record Way (m : List ℕ) (t k d : ℕ) (ws : List ℕ) : Type 0 where

@@ -21,10 +21,10 @@ module _ (m m′ m″ : List ℕ) (x : Bytes m′) (y : Bytes m″) where
   set-single t k e tr B one two =
       let f = one tr B in
       let h = two tr B in
-      determined _ _ t m m′ m″ (λ z u. written t z (uses (z / 2) tr) _ (omega (arith, weight-set 0 (same (z / 2)) k e tr)) (omega (arith, u))) x y (f .stands) (f .kept) (h .stands) (h .kept)
+      determined _ _ t m m′ m″ (λ z u. written t z (uses (z / 8) tr) _ (omega (arith, weight-set 0 (same (z / 8)) k e tr)) (omega (arith, u))) x y (f .stands) (f .kept) (h .stands) (h .kept)
 
   pub insert-single : (t k e q : ℕ) (tr : Tree) → Begun (adding k e q) m t tr → Becomes (adding k e q) t m m′ → Becomes (adding k e q) t m m″ → m′ ≡ m″
   insert-single t k e q tr B one two =
       let f = one tr B in
       let h = two tr B in
-      determined _ _ t m m′ m″ (λ z u. written t z (uses (z / 2) tr + same (z / 2) q) _ (omega (arith, weight-insert (λ j v. 0) (same (z / 2)) k e q tr)) (omega (arith, u))) x y (f .stands) (f .kept) (h .stands) (h .kept)
+      determined _ _ t m m′ m″ (λ z u. written t z (uses (z / 8) tr + same (z / 8) q) _ (omega (arith, weight-insert (λ j v. 0) (same (z / 8)) k e q tr)) (omega (arith, u))) x y (f .stands) (f .kept) (h .stands) (h .kept)

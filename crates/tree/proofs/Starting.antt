@@ -28,7 +28,7 @@ use Rattle.tracing.specs.Ways.{Leads, Way}
 use Rattle.tracing.proofs.Below.{within-alone}
 use Rattle.rising.specs.Changes.{adding, cutting, ending, Begun, Ready, Becomes}
 use Rattle.rising.specs.Rises.{Rising, Settling}
-use Rattle.rising.proofs.Steps.{begun-near, kid, leads, x-half}
+use Rattle.rising.proofs.Steps.{begun-near, kid, leads, x-is, x-half, y-is}
 use Rattle.rising.proofs.Settling.{ready-at}
 use Rattle.tree.specs.OnWays.{Insertable, Grafting}
 
@@ -64,12 +64,12 @@ module _ (m : List ℕ) (s k e q : ℕ) (G : Grafting m s k e q) (n : Node) (en 
   far-in true = G .able .right
   far-in false = G .able .left
 
-  pub graft-in : Within m s × Within m (farSeat d q) × (q < halfWord)
+  pub graft-in : Within m s × Within m (farSeat d q) × (8 * q < halfWord)
   graft-in = (within (G .able .ready .1 .stands), far-in d, omega (arith, G .able .left .2))
 
   -- the place taken is not that of s
-  apart : (tr : Tree) → Begun (adding k e q) m s tr → s / 2 ≢ q
-  apart tr B = same-none (s / 2) q (omega (arith, B .once (s / 2), same-self (s / 2)))
+  apart : (tr : Tree) → Begun (adding k e q) m s tr → s / 8 ≢ q
+  apart tr B = same-none (s / 8) q (omega (arith, B .once (s / 8), same-self (s / 8)))
 
   module _ (m1 : List ℕ) (o1 : Copied s (farSeat d q) m m1) where
     pub leaf-in : Within m1 (nearSeat d q)
@@ -86,9 +86,9 @@ module _ (m : List ℕ) (s k e q : ℕ) (G : Grafting m s k e q) (n : Node) (en 
       old-leaf j v B = stands-past (near-half d q) (o2 .kept) (λ i. near-far d q (sym i)) refl (copied-past (far-half d q) o1 (far-in d) refl (B .stands))
 
       old-at : nodeAt m2 (farSeat d q) ≡ n
-      old-at = node-kept _ m1 m2 (o2 .kept) (farSeat d q) (same-other _ _ (λ i. near-far d q (sym i))) ∙ (o1 .at ∙ sym en)
+      old-at = node-kept _ m1 m2 (o2 .kept) (farSeat d q) (far-in d .3) (same-other _ _ (λ i. near-far d q (sym i))) ∙ (o1 .at ∙ sym en)
 
-      both-at : (b : Bool) (x : Node) → x ≡ leafNode k e → nodeAt m2 (nearSeat b q) ≡ leafNode k e → nodeAt m2 (farSeat b q) ≡ n → overNode (near b x n) (far b x n) q ≡ overNode (nodeAt m2 (2 * q)) (nodeAt m2 (2 * q + 1)) q
+      both-at : (b : Bool) (x : Node) → x ≡ leafNode k e → nodeAt m2 (nearSeat b q) ≡ leafNode k e → nodeAt m2 (farSeat b q) ≡ n → overNode (near b x n) (far b x n) (8 * q) ≡ overNode (nodeAt m2 (8 * q)) (nodeAt m2 (8 * q + 4)) (8 * q)
       both-at true x ex a c = rw (ex, a, c)
       both-at false x ex a c = rw (ex, a, c)
 
@@ -101,18 +101,18 @@ module _ (m : List ℕ) (s k e q : ℕ) (G : Grafting m s k e q) (n : Node) (en 
         both-low true = low-leaves
         both-low false = (low-leaves .1, low-leaves .0)
 
-        pub over-in : (o : Node) → o ≡ overNode (near d x n) (far d x n) q → Within m2 s × Fits o
-        over-in o eo = (room, over-fits (near d x n) (far d x n) o q eo (both-low d .0) (both-low d .1) (graft-in .2))
+        pub over-in : (o : Node) → o ≡ overNode (near d x n) (far d x n) (8 * q) → Within m2 s × Fits o
+        over-in o eo = (room, over-fits (near d x n) (far d x n) o (8 * q) eo (both-low d .0) (both-low d .1) (graft-in .2))
 
-        pub over-both : (o : Node) → o ≡ overNode (near d x n) (far d x n) q → (m3 : List ℕ) → Saved s o m2 m3 → Over s q m2 m3
+        pub over-both : (o : Node) → o ≡ overNode (near d x n) (far d x n) (8 * q) → (m3 : List ℕ) → Saved s o m2 m3 → Over s (8 * q) m2 m3
         over-both o eo m3 u = rw (eo ∙ both-at d x ex (o2 .at) old-at) at u
 
-      pub grafted : (m3 : List ℕ) → Over s q m2 m3 → Becomes (adding k e q) s m m3
+      pub grafted : (m3 : List ℕ) → Over s (8 * q) m2 m3 → Becomes (adding k e q) s m m3
       grafted m3 o3 (leaf j v) B =
           let i : d ≡ ltb k j = ap (λ (y : Node). ltb k (y .lo)) (reads m s n en (B .stands)) in
           record {
             stands = rw (insert-leaf k e q j v d i) (over-stands d refl room o3 new-leaf (old-leaf j v B) (apart _ B) refl refl);
-            kept = kept-then {n = λ z. same (z / 2) q}
+            kept = kept-then {n = λ z. same (z / 8) q}
                 (kept-then (o1 .kept) (o2 .kept) (λ z h. (seat-free z _ q (far-half d q) h, seat-free z _ q (near-half d q) h)))
                 (o3 .kept) (λ z h. (omega (arith, h), omega (arith, h)));
           }
@@ -120,28 +120,28 @@ module _ (m : List ℕ) (s k e q : ℕ) (G : Grafting m s k e q) (n : Node) (en 
 
 -- ---- a leaf gone: its sibling is where the node above them was
 -- the sibling's seat, by the leaf's
-pub sibling : (x p : ℕ) (s : Bool) → x ≡ nearSeat s p → farSeat (eqb (x % 2) 0) (x / 2) ≡ farSeat s p
+pub sibling : (x p : ℕ) (s : Bool) → x ≡ nearSeat s p → farSeat (eqb (x % 8) 0) (x / 8) ≡ farSeat s p
 sibling x p true e =
-    let a : x % 2 ≡ 0 = omega arith in
-    let b : x / 2 ≡ p = omega arith in
-    rw (eq-eqb (x % 2) 0 a, b)
+    let a : x % 8 ≡ 0 = omega arith in
+    let b : x / 8 ≡ p = omega arith in
+    rw (eq-eqb (x % 8) 0 a, b)
 sibling x p false e =
-    let a : x % 2 ≡ 1 = omega arith in
-    let b : x / 2 ≡ p = omega arith in
-    rw (ne-eqb (x % 2) 0 (λ z. omega arith), b)
+    let a : x % 8 ≡ 4 = omega arith in
+    let b : x / 8 ≡ p = omega arith in
+    rw (ne-eqb (x % 8) 0 (λ z. omega arith), b)
 
 -- the side that the key leads to from w
 abbrev sideOf : (m : List ℕ) (k w : ℕ) → Bool
-sideOf m k w = ltb k (nodeAt m (2 * nodeAt m w .place + 1) .lo)
+sideOf m k w = ltb k (nodeAt m (nodeAt m w .place + 4) .lo)
 
 module _ (m : List ℕ) (k w x : ℕ) (L : Leads m k w x) (low : nodeAt m x .height ≡ 0) where
   abbrev beside : ℕ
-  beside = farSeat (eqb (x % 2) 0) (x / 2)
+  beside = farSeat (eqb (x % 8) 0) (x / 8)
 
   at-leaf : (v : ℕ) (l r : Tree) (B : Begun (cutting k) m w (node v l r)) → height (near (sideOf m k w) l r) ≡ 0
   at-leaf v l r B = sym (tall (kid (cutting k) m w x L v l r B .near-at)) ∙ low
 
-  pub cut-above : (tr : Tree) → Begun (cutting k) m w tr → x / 2 ≡ above k tr
+  pub cut-above : (tr : Tree) → Begun (cutting k) m w tr → x / 8 ≡ above k tr
   cut-above (leaf j v) B = absurd (L .inner (tall (B .stands)))
   cut-above (node v l r) B =
       let i = leads (cutting k) m w x L v l r B in
@@ -149,17 +149,17 @@ module _ (m : List ℕ) (k w x : ℕ) (L : Leads m k w x) (low : nodeAt m x .hei
 
   pub beside-in : (tr : Tree) → Begun (cutting k) m w tr → Within m beside
   beside-in (leaf j v) B = absurd (L .inner (tall (B .stands)))
-  beside-in (node v l r) B = rw (sibling x (nodeAt m w .place) (sideOf m k w) (L .to)) (within (kid (cutting k) m w x L v l r B .far-at))
+  beside-in (node v l r) B = rw (sibling x v (sideOf m k w) (x-is (cutting k) m w x L v l r B)) (rw (y-is (cutting k) m w x L v l r B) at (within (kid (cutting k) m w x L v l r B .far-at)))
 
   pub cut-leaf : (m1 : List ℕ) → Copied beside w m m1 → Becomes (cutting k) w m m1
   cut-leaf m1 o (leaf j v) B = absurd (L .inner (tall (B .stands)))
   cut-leaf m1 o (node v l r) B =
       let c = kid (cutting k) m w x L v l r B in
       let i = leads (cutting k) m w x L v l r B in
-      let u = rw (sibling x (nodeAt m w .place) (sideOf m k w) (L .to)) at o in
+      let u = rw (sibling x v (sideOf m k w) (x-is (cutting k) m w x L v l r B)) at o in
       record {
         stands = rw (remove-side k v l r _ i, less-leaf _ v (near _ l r) (remove k (near _ l r)) (far _ l r) (at-leaf v l r B))
-            (copied-past refl u (within (B .stands)) (omega (arith, B .once (w / 2), same-self (w / 2), uses-sides (w / 2) (sideOf m k w) l r)) (c .far-at));
+            (copied-past refl u (within (B .stands)) (omega (arith, B .once (w / 8), same-self (w / 8), uses-sides (w / 8) (sideOf m k w) l r)) (rw (y-is (cutting k) m w x L v l r B) at (c .far-at)));
         kept = kept-less (o .kept) (λ y h. omega arith);
       }
 
@@ -207,10 +207,10 @@ module _ (m : List ℕ) (t k d : ℕ) (ws : List ℕ) (W : Way m t k d ws) where
     pub above-in : Within m (at (d - 1))
     above-in = within (ready (d - 1) (omega arith) .1 .stands)
 
-    pub sibling-in : Within m (farSeat (eqb (at d % 2) 0) (at d / 2))
+    pub sibling-in : Within m (farSeat (eqb (at d % 8) 0) (at d / 8))
     sibling-in = let r = ready (d - 1) (omega arith) in beside-in m k (at (d - 1)) (at d) leads-end (W .last) (r .0) (r .1)
 
-    pub cutting-start : (m1 : List ℕ) → Copied (farSeat (eqb (at d % 2) 0) (at d / 2)) (at (d - 1)) m m1 → Rising (cutting k) m t d ws (d - 1) m1
+    pub cutting-start : (m1 : List ℕ) → Copied (farSeat (eqb (at d % 8) 0) (at d / 8)) (at (d - 1)) m m1 → Rising (cutting k) m t d ws (d - 1) m1
     cutting-start m1 o =
         record {
           begun = a;
@@ -220,7 +220,7 @@ module _ (m : List ℕ) (t k d : ℕ) (ws : List ℕ) (W : Way m t k d ws) where
         }
 
     -- the place that comes free is the leaf's
-    from : (n i : ℕ) → n + suc i ≡ d → (tr : Tree) → Begun (cutting k) m (at i) tr → at d / 2 ≡ above k tr
+    from : (n i : ℕ) → n + suc i ≡ d → (tr : Tree) → Begun (cutting k) m (at i) tr → at d / 8 ≡ above k tr
     from zero i e tr B =
         let j : i ≡ d - 1 = omega arith in
         cut-above m k (at (d - 1)) (at d) leads-end (W .last) tr (rw j at B)
@@ -232,5 +232,5 @@ module _ (m : List ℕ) (t k d : ℕ) (ws : List ℕ) (W : Way m t k d ws) where
         let u = W .leads (suc i) (omega arith) .inner in
         rw (above-side k v l r (sideOf m k (at i)) g, above-node v (above k (near (sideOf m k (at i)) l r)) (near (sideOf m k (at i)) l r) (omega (arith, u, tall (N .stands)))) (from n (suc i) (omega arith) (near (sideOf m k (at i)) l r) N)
 
-    pub freed : (tr : Tree) → Begun (cutting k) m t tr → at d / 2 ≡ above k tr
+    pub freed : (tr : Tree) → Begun (cutting k) m t tr → at d / 8 ≡ above k tr
     freed tr B = from (d - 1) 0 (omega (arith, deep-one)) tr (rw (W .first) B)

@@ -17,8 +17,8 @@ SetsOn ws d k e m m′ = (t : ℕ) → Partway m t k d ws → Becomes (ending k 
 -- ---- a leaf put in: the place that it takes is inside
 pub record Insertable (m : List ℕ) (t k e q : ℕ) : Type 0 where
   pub ready : Ready (adding k e q) m t
-  pub left : Within m (2 * q)
-  pub right : Within m (2 * q + 1)
+  pub left : Within m (8 * q)
+  pub right : Within m (8 * q + 4)
 
 -- its way being noted
 abbrev pub Growable : List ℕ → (d k e q : ℕ) → List ℕ → Type 0

@@ -6,6 +6,7 @@ ghost use Rattle.tracing.specs.Alone.{Alone};
 ghost use Rattle.tracing.specs.Ways.{Begins};
 ghost use Rattle.rising.specs.Changes.{adding, ending, Becomes};
 ghost use Rattle.tree.specs.OnWays.{SetsOn, Insertable, Growable, Grows, Removes, Cuttable, Cuts, Grafting};
+use node::PLACE_WORDS;
 use node::far;
 use node::near;
 use rising::rise;
@@ -45,9 +46,10 @@ fn graft(mem: &mut [u8], s: usize, key: u64, end: u64, q: u64)
     let n = node::load(mem, s);
     let left = key < n.lo;
     let leaf = node::leaf(key, end);
-    node::copy(mem, s, far(left, q));
-    node::save(mem, near(left, q), leaf);
-    node::save(mem, s, summing::over(left, leaf, n, q));
+    let first = PLACE_WORDS * q;
+    node::copy(mem, s, far(left, first));
+    node::save(mem, near(left, first), leaf);
+    node::save(mem, s, summing::over(left, leaf, n, first));
 }
 
 // Puts a leaf into a tree, at the end of the way that its key leads, under a new node whose children stand at place q.
@@ -74,10 +76,14 @@ fn take_out(mem: &mut [u8], way: &[u16], depth: usize, key: u64) -> u64
     requires { ⌜ Cuttable (now way) depth key (now mem) ⌝ }
     ensures { λ q. ⌜ Cuts (now (way .entry)) depth key q (now (mem .entry)) (now (mem .exit)) ⌝ }
 {
-    let leaf = way[depth] as usize;
-    let q = (leaf / 2) as u64;
+    let leaf = way[depth] as u64;
+    let q = leaf / PLACE_WORDS;
     let above = depth - 1;
-    node::copy(mem, far(leaf % 2 == 0, q), way[above] as usize);
+    node::copy(
+        mem,
+        far(leaf % PLACE_WORDS == 0, PLACE_WORDS * q),
+        way[above] as usize,
+    );
     rise(mem, way, above);
     q
 }

@@ -75,13 +75,13 @@ module _ (m : List ℕ) (n k e : ℕ) (some : 1 ≤ n) (few : n < voids) (x : Ha
 
 -- ---- a void for another
 -- the seats at a place of a tree that stands
-inside : (t : Tree) (m : List ℕ) (s z : ℕ) → Stands m s t → 1 ≤ uses z t → Within m (2 * z) × Within m (2 * z + 1)
+inside : (t : Tree) (m : List ℕ) (s z : ℕ) → Stands m s t → 1 ≤ uses z t → Within m (8 * z) × Within m (8 * z + 4)
 inside (leaf k e) m s z a h = absurd (omega arith)
 inside (node q l r) m s z a h = elim (ℕ-discrete z q) [
   | yes i ↦ rw i (within (left-stands a), within (right-stands a))
   | no i ↦ elim (case-le 1 (uses z l)) [
-    | inl y ↦ inside l m (2 * q) z (left-stands a) (y .0)
-    | inr y ↦ inside r m (2 * q + 1) z (right-stands a) (omega (arith, same-other z q i))
+    | inl y ↦ inside l m (8 * q) z (left-stands a) (y .0)
+    | inr y ↦ inside r m (8 * q + 4) z (right-stands a) (omega (arith, same-other z q i))
   ]
 ]
 
@@ -98,7 +98,7 @@ module _ (m m′ : List ℕ) (key q : ℕ) (x : Has m voids) (r : Removes rootSe
   gone : (z : ℕ) → uses z t + same z q ≡ uses z (x .0)
   gone z = omega (arith, ap (same z) (cut .0), weight-remove 0 (same z) key (x .0) (tall-node (x .0) (omega (arith, x .1 .many))))
 
-  room : Within m (2 * q) × Within m (2 * q + 1)
+  room : Within m (8 * q) × Within m (8 * q + 4)
   room = inside (x .0) m rootSeat q (x .1 .stands) (omega (arith, gone q, same-self q))
 
   module _ (k e : ℕ) where
@@ -115,8 +115,8 @@ module _ (m m′ : List ℕ) (key q : ℕ) (x : Has m voids) (r : Removes rootSe
     cut-insertable =
         record {
           ready = (t, again);
-          left = within-kept _ m m′ (cut .1 .kept) (2 * q) (room .0);
-          right = within-kept _ m m′ (cut .1 .kept) (2 * q + 1) (room .1);
+          left = within-kept _ m m′ (cut .1 .kept) (8 * q) (room .0);
+          right = within-kept _ m m′ (cut .1 .kept) (8 * q + 4) (room .1);
         }
 
     pub cut-grown : (m″ : List ℕ) → Becomes (adding k e q) rootSeat m′ m″ → Has m″ voids

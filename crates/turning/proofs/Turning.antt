@@ -18,13 +18,13 @@ use Rattle.shape.specs.SideLaws.{height-over, height-sides}
 use Rattle.shape.specs.PlaceLaws.{same-self, same-none}
 use Rattle.node.proofs.Frames.{kept-then, kept-less, within-kept}
 use Rattle.node.proofs.Reps.{tall, within}
-use Rattle.node.proofs.Seats.{nearSeat, farSeat, near-half, far-half, near-far, near-stands, far-stands, over-stands, stands-past, copied-past, reads-height, Parts, parts}
+use Rattle.node.proofs.Seats.{nearOf, farOf, nearSeat, farSeat, near-half, far-half, near-is, far-is, near-far, near-stands, far-stands, over-stands, stands-past, copied-past, reads-height, Parts, parts}
 use Rattle.turning.specs.Turns.{Two, Both, Arranged, Turns}
-use Rattle.turning.proofs.Sides.{uses-over, uses-sides, apart, seat-free, mendable-on}
+use Rattle.turning.proofs.Sides.{uses-over, uses-sides, apart, seat-free, mendable-on, copied-at, over-at, mendable-at, within-at, read-by}
 
 -- ---- the single turn: the high tree, at place x, is a and c; beside it is b; the node over all goes to the seat t of the place p
 record Single (m : List ℕ) (s : Bool) (t p w x : ℕ) (a c b : Tree) : Type 0 where
-  seat : t / 2 ≡ p
+  seat : t / 8 ≡ p
   room : Within m t
   high-in : Within m (nearSeat s w)
   a-at : Stands m (nearSeat s x) a
@@ -55,10 +55,10 @@ module _ {m : List ℕ} {s : Bool} {t p w x : ℕ} {a c b : Tree} (f : Single m 
     in1 : Within m1 (farSeat s x)
     in1 = within-kept _ m m1 (o1 .kept) (farSeat s x) (within (f .c-at))
 
-    mend1 : Mendable m1 (farSeat s x) w
+    mend1 : Mendable m1 (farSeat s x) (8 * w)
     mend1 = mendable-on s in1 c1 b1 (omega (arith, f .low)) (omega (arith, f .low, f .steep))
 
-    module _ (m2 : List ℕ) (o2 : Over (farSeat s x) w m1 m2) where
+    module _ (m2 : List ℕ) (o2 : Over (farSeat s x) (8 * w) m1 m2) where
       w2 : Stands m2 (farSeat s x) (over s w c b)
       w2 = over-stands s (far-half s x) in1 o2 c1 b1 w-x (omega (arith, f .once x, same-self x)) (omega (arith, f .once x, same-self x))
 
@@ -68,21 +68,21 @@ module _ {m : List ℕ} {s : Bool} {t p w x : ℕ} {a c b : Tree} (f : Single m 
       in2 : Within m2 t
       in2 = within-kept _ m1 m2 (o2 .kept) t (within-kept _ m m1 (o1 .kept) t (f .room))
 
-      mend2 : Mendable m2 t x
+      mend2 : Mendable m2 t (8 * x)
       mend2 = mendable-on s in2 a2 w2 (omega (arith, f .low)) (omega (arith, f .low, f .steep, height-over s w c b))
 
-      single-end : (m3 : List ℕ) → Over t x m2 m3
-          → Stands m3 t (over s x a (over s w c b)) × Kept (λ z. same z t + same (z / 2) w + same (z / 2) x) m m3
+      single-end : (m3 : List ℕ) → Over t (8 * x) m2 m3
+          → Stands m3 t (over s x a (over s w c b)) × Kept (λ z. same z t + same (z / 8) w + same (z / 8) x) m m3
       single-end m3 o3 = (
         over-stands s (f .seat) in2 o3 a2 w2 p-x (omega (arith, f .once p, same-self p)) (omega (arith, f .once p, same-self p, uses-over p s w c b)),
-        kept-then {n = λ z. same (z / 2) w + same (z / 2) x}
+        kept-then {n = λ z. same (z / 8) w + same (z / 8) x}
             (kept-then (o1 .kept) (o2 .kept) (λ z e. (seat-free z _ w (near-half s w) (omega arith), seat-free z _ x (far-half s x) (omega arith))))
             (o3 .kept) (λ z e. (omega arith, omega arith)),
       )
 
 -- ---- the double turn: the high tree's inner child, at place y, is d and e
 record Double (m : List ℕ) (s : Bool) (t p w x y : ℕ) (a d e b : Tree) : Type 0 where
-  seat : t / 2 ≡ p
+  seat : t / 8 ≡ p
   room : Within m t
   high-in : Within m (nearSeat s w)
   inner-in : Within m (farSeat s x)
@@ -140,10 +140,10 @@ module _ {m : List ℕ} {s : Bool} {t p w x y : ℕ} {a d e b : Tree} (f : Doubl
       moved : (u : ℕ) → Within m u → Within m2 u
       moved u i = within-kept _ m1 m2 (o2 .kept) u (within-kept _ m m1 (o1 .kept) u i)
 
-      mend-x : Mendable m2 (nearSeat s y) x
+      mend-x : Mendable m2 (nearSeat s y) (8 * x)
       mend-x = mendable-on s (moved _ (within (f .d-at))) a2′ d2 (omega (arith, f .low, f .steep)) (omega (arith, f .low))
 
-      module _ (m3 : List ℕ) (o3 : Over (nearSeat s y) x m2 m3) where
+      module _ (m3 : List ℕ) (o3 : Over (nearSeat s y) (8 * x) m2 m3) where
         x3 : Stands m3 (nearSeat s y) (over s x a d)
         x3 = over-stands s (near-half s y) (moved _ (within (f .d-at))) o3 a2′ d2 y-x (omega (arith, f .once y, same-self y)) (omega (arith, f .once y, same-self y))
 
@@ -156,10 +156,10 @@ module _ {m : List ℕ} {s : Bool} {t p w x y : ℕ} {a d e b : Tree} (f : Doubl
         far3 : Within m3 (farSeat s y)
         far3 = within-kept _ m2 m3 (o3 .kept) _ (moved _ (within (f .e-at)))
 
-        mend-w : Mendable m3 (farSeat s y) w
+        mend-w : Mendable m3 (farSeat s y) (8 * w)
         mend-w = mendable-on s far3 e3 b3 (omega (arith, f .low)) (omega (arith, f .low, f .steep))
 
-        module _ (m4 : List ℕ) (o4 : Over (farSeat s y) w m3 m4) where
+        module _ (m4 : List ℕ) (o4 : Over (farSeat s y) (8 * w) m3 m4) where
           w4 : Stands m4 (farSeat s y) (over s w e b)
           w4 = over-stands s (far-half s y) far3 o4 e3 b3 y-w (omega (arith, f .once y, same-self y)) (omega (arith, f .once y, same-self y))
 
@@ -169,149 +169,180 @@ module _ {m : List ℕ} {s : Bool} {t p w x y : ℕ} {a d e b : Tree} (f : Doubl
           in4 : Within m4 t
           in4 = within-kept _ m3 m4 (o4 .kept) t (within-kept _ m2 m3 (o3 .kept) t (moved t (f .room)))
 
-          mend-y : Mendable m4 t y
+          mend-y : Mendable m4 t (8 * y)
           mend-y = mendable-on s in4 x4 w4 (omega (arith, f .low, f .steep, height-over s x a d)) (omega (arith, f .low, f .steep, height-over s w e b))
 
-          double-end : (m5 : List ℕ) → Over t y m4 m5
-              → Stands m5 t (over s y (over s x a d) (over s w e b)) × Kept (λ z. same z t + same (z / 2) w + same (z / 2) x + same (z / 2) y) m m5
+          double-end : (m5 : List ℕ) → Over t (8 * y) m4 m5
+              → Stands m5 t (over s y (over s x a d) (over s w e b)) × Kept (λ z. same z t + same (z / 8) w + same (z / 8) x + same (z / 8) y) m m5
           double-end m5 o5 = (
             over-stands s (f .seat) in4 o5 x4 w4 p-y (omega (arith, f .once p, same-self p, uses-over p s x a d)) (omega (arith, f .once p, same-self p, uses-over p s w e b)),
-            kept-then {n = λ z. same (z / 2) w + same (z / 2) x + same (z / 2) y}
-                (kept-then {n = λ z. same (z / 2) w + same (z / 2) x}
+            kept-then {n = λ z. same (z / 8) w + same (z / 8) x + same (z / 8) y}
+                (kept-then {n = λ z. same (z / 8) w + same (z / 8) x}
                 (kept-then (o1 .kept) (o2 .kept) (λ z q. (seat-free z _ x (far-half s x) (omega arith), seat-free z _ w (near-half s w) (omega arith))))
-                (kept-then {k = λ z. same (z / 2) y} (o3 .kept) (o4 .kept) (λ z q. (seat-free z _ y (near-half s y) q, seat-free z _ y (far-half s y) q)))
+                (kept-then {k = λ z. same (z / 8) y} (o3 .kept) (o4 .kept) (λ z q. (seat-free z _ y (near-half s y) q, seat-free z _ y (far-half s y) q)))
                 (λ z q. (omega arith, omega arith)))
                 (o5 .kept) (λ z q. (omega arith, omega arith)),
           )
 
 -- ---- the high tree taken apart by what was read
-module _ (m : List ℕ) (s : Bool) (t w : ℕ) (n : Node) (en : n ≡ nodeAt m (nearSeat s w))
-    (big : nodeAt m (farSeat s w) .height + 2 ≤ nodeAt m (nearSeat s w) .height) where
-  high-at : (a b : Tree) → Two m t w a b → Stands m (nearSeat s w) (near s a b)
-  high-at a b f = near-stands s w (f .first) (f .second)
+module _ (m : List ℕ) (s : Bool) (t w : ℕ) (n : Node) (en : n ≡ nodeAt m (nearOf s w))
+    (big : nodeAt m (farOf s w) .height + 2 ≤ nodeAt m (nearOf s w) .height) where
+  module _ (v : ℕ) (e : w ≡ 8 * v) (a b : Tree) (f : Two m t v a b) where
+    high-at : Stands m (nearSeat s v) (near s a b)
+    high-at = near-stands s v (f .first) (f .second)
 
-  low-at : (a b : Tree) → Two m t w a b → Stands m (farSeat s w) (far s a b)
-  low-at a b f = far-stands s w (f .first) (f .second)
+    low-at : Stands m (farSeat s v) (far s a b)
+    low-at = far-stands s v (f .first) (f .second)
 
-  heights : (a b : Tree) → Two m t w a b → (n .height ≡ height (near s a b)) × (height (far s a b) + 2 ≤ height (near s a b))
-  heights a b f = (reads-height m (nearSeat s w) n en (high-at a b f), omega (arith, tall (high-at a b f), tall (low-at a b f)))
+    steep-here : nodeAt m (farSeat s v) .height + 2 ≤ nodeAt m (nearSeat s v) .height
+    steep-here = rw e at big
 
-  open-high : (a b : Tree) → Two m t w a b → Parts m s (n .place) (near s a b)
-  open-high a b f = parts m s (nearSeat s w) n en (omega (arith, heights a b f)) (near s a b) (high-at a b f)
+    heights : (n .height ≡ height (near s a b)) × (height (far s a b) + 2 ≤ height (near s a b))
+    heights = (reads-height m (nearSeat s v) n (read-by m (near-is s v e) en) high-at, omega (arith, tall high-at, tall low-at, steep-here))
 
-  single : (a b : Tree) (f : Two m t w a b) → Single m s t (t / 2) w (n .place) (open-high a b f .a) (open-high a b f .c) (far s a b)
-  single a b f =
-      let v = open-high a b f in
-      let i = ap height (v .is) in
-      let k = height-over s (n .place) (v .a) (v .c) in
-      let g = heights a b f in
-      record {
-        seat = refl;
-        room = f .room;
-        high-in = within (high-at a b f);
-        a-at = v .a-at;
-        c-at = v .c-at;
-        b-at = low-at a b f;
-        once = λ z. omega (arith, f .once z, uses-sides z s a b, ap (uses z) (v .is), uses-over z s (n .place) (v .a) (v .c));
-        steep = omega arith;
-        low = omega (arith, f .low, height-sides s a b);
-      }
+    open-high : Parts m s (n .place) (near s a b)
+    open-high = parts m s (nearSeat s v) n (read-by m (near-is s v e) en) (omega (arith, heights)) (near s a b) high-at
 
-  -- whatever the turn has written is t, or at w or a place of the high tree
-  arranged : (a b : Tree) → Two m t w a b → (m′ : List ℕ) (k : ℕ → ℕ) → Stands m′ t (turn s w (near s a b) (far s a b)) → Kept k m m′
-      → ((z : ℕ) → same z t + uses (z / 2) (node w a b) ≡ 0 → k z ≡ 0) → Arranged t (node w a b) (turn s w (near s a b) (far s a b)) m m′
-  arranged a b f m′ k st kept less =
-      record {
-        stands = st;
-        many = λ z. omega (arith, weight-turn (λ j v. 0) (same z) s w (near s a b) (far s a b), uses-sides z s a b);
-        high = omega (arith, height-turn s w (near s a b) (far s a b) (heights a b f .1), height-sides s a b);
-        kept = kept-less kept less;
-      }
+    single : Single m s t (t / 8) v (open-high .q) (open-high .a) (open-high .c) (far s a b)
+    single =
+        let i = ap height (open-high .is) in
+        let k = height-over s (open-high .q) (open-high .a) (open-high .c) in
+        record {
+          seat = refl;
+          room = f .room;
+          high-in = within high-at;
+          a-at = open-high .a-at;
+          c-at = open-high .c-at;
+          b-at = low-at;
+          once = λ z. omega (arith, f .once z, uses-sides z s a b, ap (uses z) (open-high .is), uses-over z s (open-high .q) (open-high .a) (open-high .c));
+          steep = omega (arith, heights);
+          low = omega (arith, heights, f .low, height-sides s a b);
+        }
+
+    -- whatever the turn has written is t, or at v or a place of the high tree
+    arranged : (m′ : List ℕ) (k : ℕ → ℕ) → Stands m′ t (turn s v (near s a b) (far s a b)) → Kept k m m′
+        → ((z : ℕ) → same z t + uses (z / 8) (node v a b) ≡ 0 → k z ≡ 0) → Arranged t (node v a b) (turn s v (near s a b) (far s a b)) m m′
+    arranged m′ k st kept less =
+        record {
+          stands = st;
+          many = λ z. omega (arith, weight-turn (λ j u. 0) (same z) s v (near s a b) (far s a b), uses-sides z s a b);
+          high = omega (arith, height-turn s v (near s a b) (far s a b) (heights .1), height-sides s a b);
+          kept = kept-less kept less;
+        }
 
   -- ---- what the code may do
-  pub within-below : Both m t w → Within m (nearSeat s (n .place)) × Within m (farSeat s (n .place)) × (n .place < 65536)
-  within-below g =
-      let v = open-high (g .0) (g .1) (g .2) in
-      let i = within (v .a-at) in
-      (i, within (v .c-at), omega (arith, i .2, near-half s (n .place)))
+  pub within-below : Both m t w → Within m (nearOf s (n .place)) × Within m (farOf s (n .place)) × (n .place < 65536)
+  within-below (v, e, a, b, f) =
+      let p = open-high v e a b f in
+      let i = within (p .a-at) in
+      (within-at m (near-is s (p .q) (p .at)) i, within-at m (far-is s (p .q) (p .at)) (within (p .c-at)), omega (arith, p .at, i .2, near-half s (p .q)))
 
-  pub mend-single-1 : (m1 : List ℕ) → Copied (farSeat s (n .place)) (nearSeat s w) m m1 → Both m t w → Mendable m1 (farSeat s (n .place)) w
-  mend-single-1 m1 o1 g = mend1 (single (g .0) (g .1) (g .2)) m1 o1
+  pub mend-single-1 : (m1 : List ℕ) → Copied (farOf s (n .place)) (nearOf s w) m m1 → Both m t w → Mendable m1 (farOf s (n .place)) w
+  mend-single-1 m1 o1 (v, e, a, b, f) =
+      let p = open-high v e a b f in
+      mendable-at m1 (far-is s (p .q) (p .at)) e (mend1 (single v e a b f) m1 (copied-at _ _ (far-is s (p .q) (p .at)) (near-is s v e) o1))
 
-  pub mend-single-2 : (m1 m2 : List ℕ) → Copied (farSeat s (n .place)) (nearSeat s w) m m1 → Over (farSeat s (n .place)) w m1 m2 → Both m t w → Mendable m2 t (n .place)
-  mend-single-2 m1 m2 o1 o2 g = mend2 (single (g .0) (g .1) (g .2)) m1 o1 m2 o2
+  pub mend-single-2 : (m1 m2 : List ℕ) → Copied (farOf s (n .place)) (nearOf s w) m m1 → Over (farOf s (n .place)) w m1 m2 → Both m t w
+      → Mendable m2 t (n .place)
+  mend-single-2 m1 m2 o1 o2 (v, e, a, b, f) =
+      let p = open-high v e a b f in
+      mendable-at m2 refl (p .at) (mend2 (single v e a b f) m1 (copied-at _ _ (far-is s (p .q) (p .at)) (near-is s v e) o1) m2 (over-at _ _ (far-is s (p .q) (p .at)) e o2))
 
-  module _ (outer inner : Node) (eo : outer ≡ nodeAt m (nearSeat s (n .place))) (ei : inner ≡ nodeAt m (farSeat s (n .place))) where
-    compared : (a b : Tree) (f : Two m t w a b) → (outer .height ≡ height (open-high a b f .a)) × (inner .height ≡ height (open-high a b f .c))
-    compared a b f =
-        let v = open-high a b f in
-        (reads-height m _ outer eo (v .a-at), reads-height m _ inner ei (v .c-at))
+  module _ (outer inner : Node) (eo : outer ≡ nodeAt m (nearOf s (n .place))) (ei : inner ≡ nodeAt m (farOf s (n .place))) where
+    compared : (v : ℕ) (e : w ≡ 8 * v) (a b : Tree) (f : Two m t v a b)
+        → (outer .height ≡ height (open-high v e a b f .a)) × (inner .height ≡ height (open-high v e a b f .c))
+    compared v e a b f =
+        let p = open-high v e a b f in
+        (reads-height m _ outer (read-by m (near-is s (p .q) (p .at)) eo) (p .a-at), reads-height m _ inner (read-by m (far-is s (p .q) (p .at)) ei) (p .c-at))
 
-    pub turn-single : (m1 m2 m3 : List ℕ) → inner .height ≤ outer .height → Copied (farSeat s (n .place)) (nearSeat s w) m m1
-        → Over (farSeat s (n .place)) w m1 m2 → Over t (n .place) m2 m3 → Turns s t w m m3
-    turn-single m1 m2 m3 le o1 o2 o3 a b f =
-        let v = open-high a b f in
-        let q : height (v .c) ≤ height (v .a) = omega (arith, compared a b f) in
-        let g = single-end (single a b f) m1 o1 m2 o2 m3 o3 in
-        arranged a b f m3 _ (rw (v .is, turn-over s w (n .place) (v .a) (v .c) (far s a b), le-leb (height (v .c)) (height (v .a)) q) (g .0)) (g .1)
-        (λ z i. omega (arith, i, uses-sides (z / 2) s a b, ap (uses (z / 2)) (v .is), uses-over (z / 2) s (n .place) (v .a) (v .c)))
+    pub turn-single : (m1 m2 m3 : List ℕ) → inner .height ≤ outer .height → Copied (farOf s (n .place)) (nearOf s w) m m1
+        → Over (farOf s (n .place)) w m1 m2 → Over t (n .place) m2 m3 → Turns s t w m m3
+    turn-single m1 m2 m3 le o1 o2 o3 v e a b f =
+        let p = open-high v e a b f in
+        let q : height (p .c) ≤ height (p .a) = omega (arith, compared v e a b f) in
+        let g = single-end (single v e a b f) m1 (copied-at _ _ (far-is s (p .q) (p .at)) (near-is s v e) o1) m2 (over-at _ _ (far-is s (p .q) (p .at)) e o2) m3 (over-at _ _ refl (p .at) o3) in
+        arranged v e a b f m3 _ (rw (p .is, turn-over s v (p .q) (p .a) (p .c) (far s a b), le-leb (height (p .c)) (height (p .a)) q) (g .0)) (g .1)
+        (λ z i. omega (arith, i, uses-sides (z / 8) s a b, ap (uses (z / 8)) (p .is), uses-over (z / 8) s (p .q) (p .a) (p .c)))
 
     module _ (lt : outer .height < inner .height) where
-      open-inner : (a b : Tree) (f : Two m t w a b) → Parts m s (inner .place) (open-high a b f .c)
-      open-inner a b f = parts m s _ inner ei (omega arith) (open-high a b f .c) (open-high a b f .c-at)
+      module _ (v : ℕ) (e : w ≡ 8 * v) (a b : Tree) (f : Two m t v a b) where
+        open-inner : Parts m s (inner .place) (open-high v e a b f .c)
+        open-inner =
+            let p = open-high v e a b f in
+            parts m s _ inner (read-by m (far-is s (p .q) (p .at)) ei) (omega arith) (p .c) (p .c-at)
 
-      double : (a b : Tree) (f : Two m t w a b)
-          → Double m s t (t / 2) w (n .place) (inner .place) (open-high a b f .a) (open-inner a b f .a) (open-inner a b f .c) (far s a b)
-      double a b f =
-          let g = single a b f in
-          let i = open-inner a b f in
-          let j = ap height (i .is) in
-          let k = height-over s (inner .place) (i .a) (i .c) in
-          let q = compared a b f in
-          record {
-            seat = refl;
-            room = g .room;
-            high-in = g .high-in;
-            inner-in = within (g .c-at);
-            a-at = g .a-at;
-            d-at = i .a-at;
-            e-at = i .c-at;
-            b-at = g .b-at;
-            once = λ z. omega (arith, g .once z, ap (uses z) (i .is), uses-over z s (inner .place) (i .a) (i .c));
-            steep = omega (arith, g .steep);
-            low = omega (arith, g .low);
-          }
+        double : Double m s t (t / 8) v (open-high v e a b f .q) (open-inner .q) (open-high v e a b f .a) (open-inner .a) (open-inner .c) (far s a b)
+        double =
+            let g = single v e a b f in
+            let j = ap height (open-inner .is) in
+            let k = height-over s (open-inner .q) (open-inner .a) (open-inner .c) in
+            let q = compared v e a b f in
+            record {
+              seat = refl;
+              room = g .room;
+              high-in = g .high-in;
+              inner-in = within (g .c-at);
+              a-at = g .a-at;
+              d-at = open-inner .a-at;
+              e-at = open-inner .c-at;
+              b-at = g .b-at;
+              once = λ z. omega (arith, g .once z, ap (uses z) (open-inner .is), uses-over z s (open-inner .q) (open-inner .a) (open-inner .c));
+              steep = omega (arith, g .steep);
+              low = omega (arith, g .low);
+            }
 
-      pub within-inner : Both m t w → Within m (nearSeat s (inner .place)) × Within m (farSeat s (inner .place)) × (inner .place < 65536)
-      within-inner g =
-          let v = open-inner (g .0) (g .1) (g .2) in
-          let i = within (v .a-at) in
-          (i, within (v .c-at), omega (arith, i .2, near-half s (inner .place)))
+      pub within-inner : Both m t w → Within m (nearOf s (inner .place)) × Within m (farOf s (inner .place)) × (inner .place < 65536)
+      within-inner (v, e, a, b, f) =
+          let p = open-inner v e a b f in
+          let i = within (p .a-at) in
+          (within-at m (near-is s (p .q) (p .at)) i, within-at m (far-is s (p .q) (p .at)) (within (p .c-at)), omega (arith, p .at, i .2, near-half s (p .q)))
 
-      module _ (m1 : List ℕ) (o1 : Copied (nearSeat s (inner .place)) (farSeat s (n .place)) m m1) where
-        pub within-second : Both m t w → Within m1 (farSeat s (inner .place)) × Within m1 (nearSeat s w)
-        within-second g =
-            let d = double (g .0) (g .1) (g .2) in
-            (within (e1 d m1 o1), high1 d m1 o1)
+      module _ (m1 : List ℕ) (o1 : Copied (nearOf s (inner .place)) (farOf s (n .place)) m m1) where
+        module _ (v : ℕ) (e : w ≡ 8 * v) (a b : Tree) (f : Two m t v a b) where
+          first-copied : Copied (nearSeat s (open-inner v e a b f .q)) (farSeat s (open-high v e a b f .q)) m m1
+          first-copied = copied-at _ _ (near-is s _ (open-inner v e a b f .at)) (far-is s _ (open-high v e a b f .at)) o1
 
-        module _ (m2 : List ℕ) (o2 : Copied (farSeat s (inner .place)) (nearSeat s w) m1 m2) where
-          pub mend-double-1 : Both m t w → Mendable m2 (nearSeat s (inner .place)) (n .place)
-          mend-double-1 g = mend-x (double (g .0) (g .1) (g .2)) m1 o1 m2 o2
+        pub within-second : Both m t w → Within m1 (farOf s (inner .place)) × Within m1 (nearOf s w)
+        within-second (v, e, a, b, f) =
+            let d = double v e a b f in
+            let c = first-copied v e a b f in
+            (within-at m1 (far-is s _ (open-inner v e a b f .at)) (within (e1 d m1 c)), within-at m1 (near-is s v e) (high1 d m1 c))
 
-          module _ (m3 : List ℕ) (o3 : Over (nearSeat s (inner .place)) (n .place) m2 m3) where
-            pub mend-double-2 : Both m t w → Mendable m3 (farSeat s (inner .place)) w
-            mend-double-2 g = mend-w (double (g .0) (g .1) (g .2)) m1 o1 m2 o2 m3 o3
+        module _ (m2 : List ℕ) (o2 : Copied (farOf s (inner .place)) (nearOf s w) m1 m2) where
+          module _ (v : ℕ) (e : w ≡ 8 * v) (a b : Tree) (f : Two m t v a b) where
+            second-copied : Copied (farSeat s (open-inner v e a b f .q)) (nearSeat s v) m1 m2
+            second-copied = copied-at _ _ (far-is s _ (open-inner v e a b f .at)) (near-is s v e) o2
 
-            module _ (m4 : List ℕ) (o4 : Over (farSeat s (inner .place)) w m3 m4) where
+          pub mend-double-1 : Both m t w → Mendable m2 (nearOf s (inner .place)) (n .place)
+          mend-double-1 (v, e, a, b, f) =
+              mendable-at m2 (near-is s _ (open-inner v e a b f .at)) (open-high v e a b f .at) (mend-x (double v e a b f) m1 (first-copied v e a b f) m2 (second-copied v e a b f))
+
+          module _ (m3 : List ℕ) (o3 : Over (nearOf s (inner .place)) (n .place) m2 m3) where
+            module _ (v : ℕ) (e : w ≡ 8 * v) (a b : Tree) (f : Two m t v a b) where
+              first-over : Over (nearSeat s (open-inner v e a b f .q)) (8 * open-high v e a b f .q) m2 m3
+              first-over = over-at _ _ (near-is s _ (open-inner v e a b f .at)) (open-high v e a b f .at) o3
+
+            pub mend-double-2 : Both m t w → Mendable m3 (farOf s (inner .place)) w
+            mend-double-2 (v, e, a, b, f) =
+                mendable-at m3 (far-is s _ (open-inner v e a b f .at)) e
+                (mend-w (double v e a b f) m1 (first-copied v e a b f) m2 (second-copied v e a b f) m3 (first-over v e a b f))
+
+            module _ (m4 : List ℕ) (o4 : Over (farOf s (inner .place)) w m3 m4) where
+              module _ (v : ℕ) (e : w ≡ 8 * v) (a b : Tree) (f : Two m t v a b) where
+                second-over : Over (farSeat s (open-inner v e a b f .q)) (8 * v) m3 m4
+                second-over = over-at _ _ (far-is s _ (open-inner v e a b f .at)) e o4
+
               pub mend-double-3 : Both m t w → Mendable m4 t (inner .place)
-              mend-double-3 g = mend-y (double (g .0) (g .1) (g .2)) m1 o1 m2 o2 m3 o3 m4 o4
+              mend-double-3 (v, e, a, b, f) =
+                  mendable-at m4 refl (open-inner v e a b f .at)
+                  (mend-y (double v e a b f) m1 (first-copied v e a b f) m2 (second-copied v e a b f) m3 (first-over v e a b f) m4 (second-over v e a b f))
 
               pub turn-double : (m5 : List ℕ) → Over t (inner .place) m4 m5 → Turns s t w m m5
-              turn-double m5 o5 a b f =
-                  let j = open-high a b f in
-                  let i = open-inner a b f in
-                  let q : height (j .a) < height (j .c) = omega (arith, compared a b f) in
-                  let g = double-end (double a b f) m1 o1 m2 o2 m3 o3 m4 o4 m5 o5 in
-                  arranged a b f m5 _
-                  (rw (j .is, turn-over s w (n .place) (j .a) (j .c) (far s a b), lt-leb (height (j .c)) (height (j .a)) q, i .is, twice-over s w (n .place) (inner .place) (j .a) (i .a) (i .c) (far s a b)) (g .0)) (g .1)
-                  (λ z k. omega (arith, k, uses-sides (z / 2) s a b, ap (uses (z / 2)) (j .is), uses-over (z / 2) s (n .place) (j .a) (j .c), ap (uses (z / 2)) (i .is), uses-over (z / 2) s (inner .place) (i .a) (i .c)))
+              turn-double m5 o5 v e a b f =
+                  let j = open-high v e a b f in
+                  let i = open-inner v e a b f in
+                  let q : height (j .a) < height (j .c) = omega (arith, compared v e a b f) in
+                  let g = double-end (double v e a b f) m1 (first-copied v e a b f) m2 (second-copied v e a b f) m3 (first-over v e a b f) m4 (second-over v e a b f) m5 (over-at _ _ refl (i .at) o5) in
+                  arranged v e a b f m5 _
+                  (rw (j .is, turn-over s v (j .q) (j .a) (j .c) (far s a b), lt-leb (height (j .c)) (height (j .a)) q, i .is, twice-over s v (j .q) (i .q) (j .a) (i .a) (i .c) (far s a b)) (g .0)) (g .1)
+                  (λ z k. omega (arith, k, uses-sides (z / 8) s a b, ap (uses (z / 8)) (j .is), uses-over (z / 8) s (j .q) (j .a) (j .c), ap (uses (z / 8)) (i .is), uses-over (z / 8) s (i .q) (i .a) (i .c)))

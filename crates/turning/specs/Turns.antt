@@ -10,26 +10,27 @@ use Rattle.shape.specs.Arrange.{turn, balance}
 use Rattle.node.specs.Layout.{highest, Within, Kept}
 use Rattle.node.specs.Rep.{Stands}
 
--- two trees at place w, and a seat s for a node over them; no place is used twice, and s is at none of them
-pub record Two (m : List ℕ) (s w : ℕ) (a b : Tree) : Type 0 where
-  pub first : Stands m (2 * w) a
-  pub second : Stands m (2 * w + 1) b
+-- two trees at place v, and a seat s for a node over them; no place is used twice, and s is at none of them
+pub record Two (m : List ℕ) (s v : ℕ) (a b : Tree) : Type 0 where
+  pub first : Stands m (8 * v) a
+  pub second : Stands m (8 * v + 4) b
   pub room : Within m s
-  pub once : (z : ℕ) → same z (s / 2) + uses z (node w a b) ≤ 1
-  pub low : height (node w a b) ≤ highest
+  pub once : (z : ℕ) → same z (s / 8) + uses z (node v a b) ≤ 1
+  pub low : height (node v a b) ≤ highest
 
 -- res, at s, is on the places of `was`, and but for these and s the memory is as it was
 pub record Arranged (s : ℕ) (was res : Tree) (m m′ : List ℕ) : Type 0 where
   pub stands : Stands m′ s res
   pub many : (z : ℕ) → uses z res ≡ uses z was
   pub high : height res ≤ height was
-  pub kept : Kept (λ z. same z s + uses (z / 2) was) m m′
+  pub kept : Kept (λ z. same z s + uses (z / 8) was) m m′
 
+-- the code knows the place v by its left seat w
 abbrev pub Both : List ℕ → (s w : ℕ) → Type 0
-Both m s w = (a : Tree) × (b : Tree) × Two m s w a b
+Both m s w = (v : ℕ) × (w ≡ 8 * v) × (a : Tree) × (b : Tree) × Two m s v a b
 
 abbrev pub Turns : Bool → (s w : ℕ) → (m m′ : List ℕ) → Type 0
-Turns left s w m m′ = (a b : Tree) → Two m s w a b → Arranged s (node w a b) (turn left w (near left a b) (far left a b)) m m′
+Turns left s w m m′ = (v : ℕ) → w ≡ 8 * v → (a b : Tree) → Two m s v a b → Arranged s (node v a b) (turn left v (near left a b) (far left a b)) m m′
 
 abbrev pub Balances : (s w : ℕ) → (m m′ : List ℕ) → Type 0
-Balances s w m m′ = (a b : Tree) → Two m s w a b → Arranged s (node w a b) (balance w a b) m m′
+Balances s w m m′ = (v : ℕ) → w ≡ 8 * v → (a b : Tree) → Two m s v a b → Arranged s (node v a b) (balance v a b) m m′

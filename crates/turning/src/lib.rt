@@ -1,5 +1,5 @@
 // Turns and balances in lent memory: a node is put over the two trees at a place, turned where one is too high (shape's Arrange).
-// Left and right are one parameter, so that one function serves both sides.
+// Left and right are one parameter, so that one function serves both sides. A place is known by its left seat.
 ghost use Prim.Native.Nat.{_+_, _*_, _≤_};
 ghost use Rattle.shape.specs.Side.{near, far};
 ghost use Rattle.node.specs.Layout.{nodeAt};
@@ -12,7 +12,7 @@ use summing::mend;
 
 // Puts a node at seat s over the two trees at place w, of which the one on the side named is too high, by a single or a double turn.
 fn turn(mem: &mut [u8], s: usize, w: u64, left: bool)
-    requires { ⌜ nodeAt (now mem) (far left (2 * w) (2 * w + 1)) .height + 2 ≤ nodeAt (now mem) (near left (2 * w) (2 * w + 1)) .height ⌝ }
+    requires { ⌜ nodeAt (now mem) (far left w (w + 4)) .height + 2 ≤ nodeAt (now mem) (near left w (w + 4)) .height ⌝ }
     requires { ⌜ Both (now mem) s w ⌝ }
     ensures { λ _. ⌜ Turns left s w (now (mem .entry)) (now (mem .exit)) ⌝ }
 {

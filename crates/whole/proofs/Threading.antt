@@ -42,9 +42,9 @@ is-none m n (suc k) at h e = absurd (omega arith)
 record Head (m : List ℕ) (n k at : ℕ) : Type 0 where
   some : 1 ≤ at
   inside : at < n
-  is : nodeAt m (2 * at) ≡ spareNode (k - 1) (nodeAt m (2 * at) .place)
-  beside : nodeAt m (2 * at + 1) ≡ leafNode 0 0
-  rest : Threads m n (k - 1) (nodeAt m (2 * at) .place)
+  is : nodeAt m (8 * at) ≡ spareNode (k - 1) (nodeAt m (8 * at) .place)
+  beside : nodeAt m (8 * at + 4) ≡ leafNode 0 0
+  rest : Threads m n (k - 1) (nodeAt m (8 * at) .place)
 
 head : (m : List ℕ) (n k at : ℕ) → 0 < k → Threads m n k at → Head m n k at
 unfolding Threads
@@ -77,15 +77,15 @@ module _ (m : List ℕ) (n k at k′ at′ : ℕ) (w : Way m n k at k′ at′) 
   way-out h s = omega (arith, head m n k′ at′ some (w .from s) .inside)
 
   -- the two nodes there, v and u, at the seats i and j
-  module _ (v : Node) (i : ℕ) (ei : i ≡ 2 * at′) (ev : v ≡ nodeAt m i) where
-    is-left : v ≡ nodeAt m (2 * at′)
+  module _ (v : Node) (i : ℕ) (ei : i ≡ 8 * at′) (ev : v ≡ nodeAt m i) where
+    is-left : v ≡ nodeAt m (8 * at′)
     is-left = ev ∙ ap (nodeAt m) ei
 
     pub way-not : (v ≡ spareNode (k′ - 1) (v .place) → ⊥) → Threads m n k at → ⊥
     way-not f s = f (rw is-left (head m n k′ at′ some (w .from s) .is))
 
-    module _ (u : Node) (j : ℕ) (ej : j ≡ 2 * at′ + 1) (eu : u ≡ nodeAt m j) where
-      is-right : u ≡ nodeAt m (2 * at′ + 1)
+    module _ (u : Node) (j : ℕ) (ej : j ≡ 8 * at′ + 4) (eu : u ≡ nodeAt m j) where
+      is-right : u ≡ nodeAt m (8 * at′ + 4)
       is-right = eu ∙ ap (nodeAt m) ej
 
       pub way-beside : (u ≡ leafNode 0 0 → ⊥) → Threads m n k at → ⊥
@@ -108,12 +108,12 @@ read-spares m r k at b e0 e6 e7 s = rw (← e0, ← e6, ← e7) s
 -- ---- the places of the list
 pub sparesAt : (k : ℕ) → List ℕ → (at : ℕ) → List ℕ
 sparesAt zero m at = []
-sparesAt (suc k) m at = at ∷ sparesAt k m (nodeAt m (2 * at) .place)
+sparesAt (suc k) m at = at ∷ sparesAt k m (nodeAt m (8 * at) .place)
 
 pub length-spares : (k : ℕ) (m : List ℕ) (at : ℕ) → length (sparesAt k m at) ≡ k
 unfolding sparesAt
 length-spares zero m at = refl
-length-spares (suc k) m at = ap suc (length-spares k m (nodeAt m (2 * at) .place))
+length-spares (suc k) m at = ap suc (length-spares k m (nodeAt m (8 * at) .place))
 
 pub first-spare : (k : ℕ) (m : List ℕ) (n at : ℕ) → Threads m n k at → first (sparesAt k m at) ≡ at
 unfolding sparesAt Threads
@@ -124,14 +124,14 @@ pub threads-spares : (k : ℕ) (m : List ℕ) (n at : ℕ) → Threads m n k at 
 unfolding sparesAt Threads Spares
 threads-spares zero m n at s = tt
 threads-spares (suc k) m n at s =
-    let x = nodeAt m (2 * at) .place in
+    let x = nodeAt m (8 * at) .place in
     (rw (length-spares k m x, first-spare k m n x (s .4)) (s .2), s .3, threads-spares k m n x (s .4))
 
 pub spares-threads : (ps : List ℕ) (m : List ℕ) (n : ℕ) → Spares m ps → ((z : ℕ) → 1 ≤ among z ps → (1 ≤ z) × (z < n)) → Threads m n (length ps) (first ps)
 unfolding Threads Spares
 spares-threads [] m n s h = refl
 spares-threads (p ∷ ps) m n s h =
-    let e : nodeAt m (2 * p) .place ≡ first ps = ap (λ (v : Node). v .place) (s .0) in
+    let e : nodeAt m (8 * p) .place ≡ first ps = ap (λ (v : Node). v .place) (s .0) in
     let i = h p (omega (arith, same-self p)) in
     (i .0, i .1, s .0 ∙ ap (spareNode (length ps)) (sym e), s .1, rw e (spares-threads ps m n (s .2) (λ z i. h z (omega arith))))
 
@@ -139,17 +139,17 @@ spares-threads (p ∷ ps) m n s h =
 pub record Marked (m : List ℕ) (n k z : ℕ) : Type 0 where
   pub some : 1 ≤ z
   pub less : z < n
-  pub mark : nodeAt m (2 * z) .height ≡ spareMark
-  pub turn : nodeAt m (2 * z) .low < k
+  pub mark : nodeAt m (8 * z) .height ≡ spareMark
+  pub turn : nodeAt m (8 * z) .low < k
 
 pub marked : (k : ℕ) (m : List ℕ) (n at z : ℕ) → Threads m n k at → 1 ≤ among z (sparesAt k m at) → Marked m n k z
 unfolding sparesAt Threads
 marked zero m n at z s h = absurd (omega arith)
-marked (suc k) m n at z s h = elim (decLt 0 (among z (sparesAt k m (nodeAt m (2 * at) .place)))) [
-  | yes y ↦ let i = marked k m n (nodeAt m (2 * at) .place) z (s .4) y in record { some = i .some; less = i .less; mark = i .mark; turn = omega (arith, i .turn) }
+marked (suc k) m n at z s h = elim (decLt 0 (among z (sparesAt k m (nodeAt m (8 * at) .place)))) [
+  | yes y ↦ let i = marked k m n (nodeAt m (8 * at) .place) z (s .4) y in record { some = i .some; less = i .less; mark = i .mark; turn = omega (arith, i .turn) }
   | no y ↦
       let q = same-is z at (omega arith) in
-      let e = ap (λ (x : ℕ). nodeAt m (2 * x)) q ∙ s .2 in
+      let e = ap (λ (x : ℕ). nodeAt m (8 * x)) q ∙ s .2 in
       record { some = omega (arith, s .0); less = omega (arith, s .1); mark = ap heightOf e; turn = omega (arith, ap (λ (v : Node). v .low) e) }
 ]
 
@@ -157,14 +157,14 @@ pub spare-once : (k : ℕ) (m : List ℕ) (n at z : ℕ) → Threads m n k at �
 unfolding sparesAt Threads
 spare-once zero m n at z s = omega arith
 spare-once (suc k) m n at z s =
-    let r = spare-once k m n (nodeAt m (2 * at) .place) z (s .4) in
+    let r = spare-once k m n (nodeAt m (8 * at) .place) z (s .4) in
     elim (decLt 0 (same z at)) [
       | no y ↦ omega arith
-      | yes y ↦ elim (decLt 0 (among z (sparesAt k m (nodeAt m (2 * at) .place)))) [
+      | yes y ↦ elim (decLt 0 (among z (sparesAt k m (nodeAt m (8 * at) .place)))) [
         | no x ↦ omega (arith, same-most z at)
         | yes x ↦
-            let i = marked k m n (nodeAt m (2 * at) .place) z (s .4) x in
-            let e = ap (λ (v : Node). v .low) (ap (λ (x : ℕ). nodeAt m (2 * x)) (same-is z at y) ∙ s .2) in
+            let i = marked k m n (nodeAt m (8 * at) .place) z (s .4) x in
+            let e = ap (λ (v : Node). v .low) (ap (λ (x : ℕ). nodeAt m (8 * x)) (same-is z at y) ∙ s .2) in
             absurd (omega (arith, i .turn, e))
       ]
     ]

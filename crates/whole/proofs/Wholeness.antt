@@ -115,13 +115,13 @@ whole-spared m w = is-spared m (w .0) (w .1) (w .2)
 
 -- ---- from the parts to the whole
 -- at a place of a tree is a node that is lower than the tree
-node-low : (m : List ℕ) (z s : ℕ) (t : Tree) → Stands m s t → 1 ≤ uses z t → nodeAt m (2 * z) .height < height t
+node-low : (m : List ℕ) (z s : ℕ) (t : Tree) → Stands m s t → 1 ≤ uses z t → nodeAt m (8 * z) .height < height t
 node-low m z s (leaf k e) f h = absurd (omega arith)
 node-low m z s (node q a b) f h = elim (decLt 0 (uses z a)) [
-  | yes y ↦ omega (arith, node-low m z (2 * q) a (left-stands f) y)
+  | yes y ↦ omega (arith, node-low m z (8 * q) a (left-stands f) y)
   | no y ↦ elim (decLt 0 (uses z b)) [
-    | yes x ↦ omega (arith, node-low m z (2 * q + 1) b (right-stands f) x)
-    | no x ↦ omega (arith, ap (λ (i : ℕ). nodeAt m (2 * i) .height) (same-is z q (omega arith)), tall (left-stands f))
+    | yes x ↦ omega (arith, node-low m z (8 * q + 4) b (right-stands f) x)
+    | no x ↦ omega (arith, ap (λ (i : ℕ). nodeAt m (8 * i) .height) (same-is z q (omega arith)), tall (left-stands f))
   ]
 ]
 

@@ -12,7 +12,7 @@ use Rattle.memory.specs.Holds.{spareNode}
 unfoldable pub Threads : List ℕ → (n k at : ℕ) → Type 0
 Threads m n zero at = at ≡ 0
 Threads m n (suc k) at =
-    (1 ≤ at) × (at < n) × (nodeAt m (2 * at) ≡ spareNode k (nodeAt m (2 * at) .place)) × (nodeAt m (2 * at + 1) ≡ leafNode 0 0) × Threads m n k (nodeAt m (2 * at) .place)
+    (1 ≤ at) × (at < n) × (nodeAt m (8 * at) ≡ spareNode k (nodeAt m (8 * at) .place)) × (nodeAt m (8 * at + 4) ≡ leafNode 0 0) × Threads m n k (nodeAt m (8 * at) .place)
 
 -- how many spare places there are, beside so many voids
 abbrev pub spareMany : (room kept : ℕ) → ℕ

@@ -66,11 +66,11 @@ pub fn spared(mem: &[u8]) -> bool
             return false;
         }
         many -= 1;
-        let n = node::load(mem, node::near(true, at));
+        let n = node::load(mem, node::near(true, node::PLACE_WORDS * at));
         if !spare(n, many) {
             return false;
         }
-        if !blank(node::load(mem, node::far(true, at))) {
+        if !blank(node::load(mem, node::far(true, node::PLACE_WORDS * at))) {
             return false;
         }
         at = n.place;

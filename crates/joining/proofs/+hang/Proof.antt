@@ -1,11 +1,11 @@
 -- `joining::hang`: here, or one step down and a balance (Hanging). Assumes nothing.
-use mathlib.Core.Path.{_∙_}
+use mathlib.Core.Path.{refl, _∙_}
 use Prim.Native.Nat.{ℕ, _<_}
 use native.Mathlib.Omega.{arith}
 use borrow.Fn.Kinds.{In}
 use borrow.Fn.PlainCycle.{Measures, is, falls, and}
 use Rattle.node.specs.Layout.{nodeAt}
-use Rattle.node.proofs.Seats.{nearSeat}
+use Rattle.node.proofs.Seats.{nearOf}
 use Rattle.summing.proofs.Sums.{read-at}
 use Rattle.turning.proofs.Sides.{both-within, both-small, copied-at}
 use Rattle.turning.proofs.Balancing.{mendable-both}
@@ -24,7 +24,7 @@ use Rattle.joining.proofs.+hang.Tie.{close}
 
 -- the height of the higher one falls at each call
 abbrev μ-hang : Measures 1 hang-kinds.ps ℕ
-μ-hang κs a = nodeAt (a .0 .now) (nearSeat (a .1 .1 .1 .0) (a .1 .1 .0)) .height
+μ-hang κs a = nodeAt (a .0 .now) (nearOf (a .1 .1 .1 .0) (a .1 .1 .0)) .height
 
 abbrev hang-at : ℕ → In 1 hang-kinds.ps
 hang-at t = and 1 hang-kinds.ps (is 1 hang-kinds.ps μ-hang t) hang.Pre
@@ -66,16 +66,16 @@ hang-copy-requires : (t : ℕ) → hang-lts.Need-copy-requires (calls t) (hang-a
 hang-copy-requires t c κs = (rw (c .before .far2 .ensures) (within-inner _ (c .before .before .before .before .before .before .before .before .before .before .before .before .args .left) _ _ _ _ (read-at _ (c .before .before .before .before .before .before .before .before .before .before .near .ensures) (c .before .before .before .before .before .before .before .before .load .ensures)) (read-at _ (c .before .before .before .before .before .before .far .ensures) (c .before .before .before .before .before .load2 .ensures)) (c .before .before .if1 .left) (c .before .before .before .before .before .before .before .before .before .before .before .before .pre .1) .0), rw (c .before .before .before .before .before .before .before .before .before .before .near .ensures) (both-within _ (c .before .before .before .before .before .before .before .before .before .before .before .before .args .left) _ _ (c .before .before .before .before .before .before .before .before .before .before .before .before .pre .1) .0))
 
 hang-hang-requires : (t : ℕ) → hang-lts.Need-hang-requires (calls t) (hang-at t) hang.Post
-hang-hang-requires t c κs = let d = hang-down _ (c .before .before .before .before .before .before .before .before .before .before .before .before .before .before .before .before .args .left) _ _ _ _ (read-at _ (c .before .before .before .before .before .before .before .before .before .before .before .before .before .before .near .ensures) (c .before .before .before .before .before .before .before .before .before .before .before .before .load .ensures)) (read-at _ (c .before .before .before .before .before .before .before .before .before .before .far .ensures) (c .before .before .before .before .before .before .before .before .before .load2 .ensures)) (c .before .before .before .before .before .before .if1 .left) _ (copied-at _ _ (c .before .before .before .before .before .far2 .ensures) (c .before .before .before .before .before .before .before .before .before .before .before .before .before .before .near .ensures) (c .before .before .before .copy .ensures)) (c .before .before .before .before .before .before .before .before .before .before .before .before .before .before .before .before .pre .1) in (rw (← c .before .before .before .before .before .before .before .before .before .before .before .before .before .before .before .before .pre .0) (d .1), both-at _ _ (c .before .before .before .before .before .far2 .ensures) (d .0))
+hang-hang-requires t c κs = let d = hang-down _ (c .before .before .before .before .before .before .before .before .before .before .before .before .before .before .before .before .args .left) _ _ _ _ (read-at _ (c .before .before .before .before .before .before .before .before .before .before .before .before .before .before .near .ensures) (c .before .before .before .before .before .before .before .before .before .before .before .before .load .ensures)) (read-at _ (c .before .before .before .before .before .before .before .before .before .before .far .ensures) (c .before .before .before .before .before .before .before .before .before .load2 .ensures)) (c .before .before .before .before .before .before .if1 .left) _ (copied-at _ _ (c .before .before .before .before .before .far2 .ensures) (c .before .before .before .before .before .before .before .before .before .before .before .before .before .before .near .ensures) (c .before .before .before .copy .ensures)) (c .before .before .before .before .before .before .before .before .before .before .before .before .before .before .before .before .pre .1) in (rw (← c .before .before .before .before .before .before .before .before .before .before .before .before .before .before .before .before .pre .0) (d .1), both-at _ (c .before .before .before .before .before .far2 .ensures) (d .0))
 
 hang-balance-requires : (t : ℕ) → hang-lts.Need-balance-requires (calls t) (hang-at t) hang.Post
-hang-balance-requires t c κs = hung-both _ (c .before .before .before .before .before .before .before .before .before .before .before .before .before .before .before .before .before .before .before .before .args .left) _ _ _ _ (read-at _ (c .before .before .before .before .before .before .before .before .before .before .before .before .before .before .before .before .before .before .near .ensures) (c .before .before .before .before .before .before .before .before .before .before .before .before .before .before .before .before .load .ensures)) (read-at _ (c .before .before .before .before .before .before .before .before .before .before .before .before .before .before .far .ensures) (c .before .before .before .before .before .before .before .before .before .before .before .before .before .load2 .ensures)) (c .before .before .before .before .before .before .before .before .before .before .if1 .left) _ (copied-at _ _ (c .before .before .before .before .before .before .before .before .before .far2 .ensures) (c .before .before .before .before .before .before .before .before .before .before .before .before .before .before .before .before .before .before .near .ensures) (c .before .before .before .before .before .before .before .copy .ensures)) _ (hangs-at _ _ (c .before .before .before .before .before .before .before .before .before .before .before .before .before .before .before .before .before .before .before .before .args .left) _ (c .before .before .before .before .before .before .before .before .before .far2 .ensures) (c .before .before .before .hang .ensures)) (c .before .before .before .before .before .before .before .before .before .before .before .before .before .before .before .before .before .before .before .before .pre .1)
+hang-balance-requires t c κs = hung-both _ (c .before .before .before .before .before .before .before .before .before .before .before .before .before .before .before .before .before .before .before .before .args .left) _ _ _ _ (read-at _ (c .before .before .before .before .before .before .before .before .before .before .before .before .before .before .before .before .before .before .near .ensures) (c .before .before .before .before .before .before .before .before .before .before .before .before .before .before .before .before .load .ensures)) (read-at _ (c .before .before .before .before .before .before .before .before .before .before .before .before .before .before .far .ensures) (c .before .before .before .before .before .before .before .before .before .before .before .before .before .load2 .ensures)) (c .before .before .before .before .before .before .before .before .before .before .if1 .left) _ (copied-at _ _ (c .before .before .before .before .before .before .before .before .before .far2 .ensures) (c .before .before .before .before .before .before .before .before .before .before .before .before .before .before .before .before .before .before .near .ensures) (c .before .before .before .before .before .before .before .copy .ensures)) _ (hangs-at _ _ (c .before .before .before .before .before .before .before .before .before .before .before .before .before .before .before .before .before .before .before .before .args .left) (c .before .before .before .before .before .before .before .before .before .far2 .ensures) refl (c .before .before .before .hang .ensures)) (c .before .before .before .before .before .before .before .before .before .before .before .before .before .before .before .before .before .before .before .before .pre .1)
 
 hang-same-length-2 : (t : ℕ) → hang-lts.Need-same-length-2 (calls t) (hang-at t) hang.Post
 hang-same-length-2 t c = c .before .before .balance .kept .0 ∙ (c .before .before .before .before .before .before .hang .kept .0 ∙ c .before .before .before .before .before .before .before .before .before .before .copy .kept .0)
 
 hang-returns-2 : (t : ℕ) → hang-lts.Need-returns-2 (calls t) (hang-at t) hang.Post
-hang-returns-2 t c = hang-on _ (c .before .before .before .before .before .before .before .before .before .before .before .before .before .before .before .before .before .before .before .before .before .before .before .args .left) _ _ _ _ (read-at _ (c .before .before .before .before .before .before .before .before .before .before .before .before .before .before .before .before .before .before .before .before .before .near .ensures) (c .before .before .before .before .before .before .before .before .before .before .before .before .before .before .before .before .before .before .before .load .ensures)) (read-at _ (c .before .before .before .before .before .before .before .before .before .before .before .before .before .before .before .before .before .far .ensures) (c .before .before .before .before .before .before .before .before .before .before .before .before .before .before .before .before .load2 .ensures)) (c .before .before .before .before .before .before .before .before .before .before .before .before .before .if1 .left) _ (copied-at _ _ (c .before .before .before .before .before .before .before .before .before .before .before .before .far2 .ensures) (c .before .before .before .before .before .before .before .before .before .before .before .before .before .before .before .before .before .before .before .before .before .near .ensures) (c .before .before .before .before .before .before .before .before .before .before .copy .ensures)) _ (hangs-at _ _ (c .before .before .before .before .before .before .before .before .before .before .before .before .before .before .before .before .before .before .before .before .before .before .before .args .left) _ (c .before .before .before .before .before .before .before .before .before .before .before .before .far2 .ensures) (c .before .before .before .before .before .before .hang .ensures)) _ (c .before .before .balance .ensures)
+hang-returns-2 t c = hang-on _ (c .before .before .before .before .before .before .before .before .before .before .before .before .before .before .before .before .before .before .before .before .before .before .before .args .left) _ _ _ _ (read-at _ (c .before .before .before .before .before .before .before .before .before .before .before .before .before .before .before .before .before .before .before .before .before .near .ensures) (c .before .before .before .before .before .before .before .before .before .before .before .before .before .before .before .before .before .before .before .load .ensures)) (read-at _ (c .before .before .before .before .before .before .before .before .before .before .before .before .before .before .before .before .before .far .ensures) (c .before .before .before .before .before .before .before .before .before .before .before .before .before .before .before .before .load2 .ensures)) (c .before .before .before .before .before .before .before .before .before .before .before .before .before .if1 .left) _ (copied-at _ _ (c .before .before .before .before .before .before .before .before .before .before .before .before .far2 .ensures) (c .before .before .before .before .before .before .before .before .before .before .before .before .before .before .before .before .before .before .before .before .before .near .ensures) (c .before .before .before .before .before .before .before .before .before .before .copy .ensures)) _ (hangs-at _ _ (c .before .before .before .before .before .before .before .before .before .before .before .before .before .before .before .before .before .before .before .before .before .before .before .args .left) (c .before .before .before .before .before .before .before .before .before .before .before .before .far2 .ensures) refl (c .before .before .before .before .before .before .hang .ensures)) _ (c .before .before .balance .ensures)
 
 pub +hang-spec : {M : Type 1} → statement M
 +hang-spec =

@@ -12,11 +12,17 @@ get-requires c κs = search needs
 put-requires : tie.Need-put-requires
 put-requires c κs = search needs
 
+mul-near : tie.Need-mul-near
+mul-near c = search needs
+
 near-requires : tie.Need-near-requires
 near-requires c κs = search needs
 
 save-requires : tie.Need-save-requires
 save-requires c κs = search needs
+
+mul-far : tie.Need-mul-far
+mul-far c = search needs
 
 far-requires : tie.Need-far-requires
 far-requires c κs = search needs
@@ -39,8 +45,10 @@ give-spare-spec =
     (tie.spec
     get-requires
     put-requires
+    mul-near
     near-requires
     save-requires
+    mul-far
     far-requires
     leaf-requires
     save-requires-2

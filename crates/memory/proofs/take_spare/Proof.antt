@@ -7,6 +7,9 @@ use Rattle.memory.proofs.take_spare.Tie as tie
 get-requires : tie.Need-get-requires
 get-requires c κs = search needs
 
+mul-near : tie.Need-mul-near
+mul-near c = search needs
+
 near-requires : tie.Need-near-requires
 near-requires c κs = search needs
 
@@ -24,4 +27,4 @@ returns c = (c .before .before .before .before .before .before .before .get .ens
 
 pub take-spare-spec : {M : Type 1} → statement M
 take-spare-spec =
-    tie.close (tie.spec get-requires near-requires load-requires put-requires same-length returns)
+    tie.close (tie.spec get-requires mul-near near-requires load-requires put-requires same-length returns)

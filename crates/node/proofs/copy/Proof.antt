@@ -5,9 +5,6 @@ use Rattle.node.proofs.Nodes.{copied-of}
 use Rattle.node.proofs.copy.Statement.{statement}
 use Rattle.node.proofs.copy.Tie as tie
 
-mul-a : tie.Need-mul-a
-mul-a c = search needs
-
 add-a : tie.Need-add-a
 add-a c = search needs
 
@@ -35,9 +32,6 @@ get-requires-4 c κs = search needs
 save-sums-requires : tie.Need-save-sums-requires
 save-sums-requires c κs = search needs
 
-mul-b : tie.Need-mul-b
-mul-b c = search needs
-
 add-b : tie.Need-add-b
 add-b c = search needs
 
@@ -57,7 +51,6 @@ pub copy-spec : {M : Type 1} → statement M
 copy-spec =
     tie.close
     (tie.spec
-    mul-a
     add-a
     add-get
     get-requires
@@ -67,7 +60,6 @@ copy-spec =
     add-get-3
     get-requires-4
     save-sums-requires
-    mul-b
     add-b
     add-put
     put-requires

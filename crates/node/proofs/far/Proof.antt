@@ -2,9 +2,6 @@ use borrow.Author.Needs.{needs}
 use Rattle.node.proofs.far.Statement.{statement}
 use Rattle.node.proofs.far.Tie as tie
 
-mul-first : tie.Need-mul-first
-mul-first c = search needs
-
 add-result : tie.Need-add-result
 add-result c = search needs
 
@@ -15,4 +12,4 @@ returns-2 : tie.Need-returns-2
 returns-2 c = rw (c .if1 .left)
 
 pub far-spec : {M : Type 1} → statement M
-far-spec = tie.close (tie.spec mul-first add-result returns returns-2)
+far-spec = tie.close (tie.spec add-result returns returns-2)

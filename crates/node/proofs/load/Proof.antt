@@ -3,9 +3,6 @@ use Rattle.node.specs.Layout.{nodeAt}
 use Rattle.node.proofs.load.Statement.{statement}
 use Rattle.node.proofs.load.Tie as tie
 
-mul-b : tie.Need-mul-b
-mul-b c = search needs
-
 add-b : tie.Need-add-b
 add-b c = search needs
 
@@ -38,7 +35,6 @@ pub load-spec : {M : Type 1} → statement M
 load-spec =
     tie.close
     (tie.spec
-    mul-b
     add-b
     add-get
     get-requires

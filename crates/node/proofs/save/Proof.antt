@@ -8,9 +8,6 @@ use Rattle.node.proofs.save.Tie as tie
 save-sums-requires : tie.Need-save-sums-requires
 save-sums-requires c κs = search needs
 
-mul-b : tie.Need-mul-b
-mul-b c = search needs
-
 add-b : tie.Need-add-b
 add-b c = search needs
 
@@ -40,7 +37,6 @@ save-spec =
     tie.close
     (tie.spec
     save-sums-requires
-    mul-b
     add-b
     add-put
     mul-put

@@ -6,9 +6,6 @@ use Rattle.node.proofs.Nodes.{sums-written}
 use Rattle.node.proofs.save_sums.Statement.{statement}
 use Rattle.node.proofs.save_sums.Tie as tie
 
-mul-b : tie.Need-mul-b
-mul-b c = search needs
-
 add-b : tie.Need-add-b
 add-b c = search needs
 
@@ -43,7 +40,6 @@ pub save-sums-spec : {M : Type 1} → statement M
 save-sums-spec =
     tie.close
     (tie.spec
-    mul-b
     add-b
     put-requires
     add-put

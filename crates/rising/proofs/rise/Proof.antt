@@ -4,7 +4,7 @@ use Prim.Native.Nat.{ℕ, _≤_}
 use native.Mathlib.Omega.{arith}
 use mathlib.Core.List.{List}
 use lib.ListN.{length}
-use Rattle.node.proofs.Reps.{within}
+use Rattle.turning.proofs.Balancing.{mendable-both}
 use Rattle.rising.specs.Changes.{Change}
 use Rattle.rising.specs.Rises.{Turned, Rising}
 use Rattle.rising.proofs.Settling.{both-above, within-above, node-above, rises, rising-settling, risen}
@@ -26,8 +26,11 @@ mul-q c = let R = (c .before .loop .inv .2 _ _ _ _ (c .before .before .before .b
 shared-slice-read-q : tie.Need-shared-slice-read-q Inv-loop μ-loop
 shared-slice-read-q c = let R = (c .before .before .loop .inv .2 _ _ _ _ (c .before .before .before .before .before .pre .4) (c .before .before .before .before .before .pre .5)) in omega (arith, R .deep, R .way .long)
 
+mul-q-2 : tie.Need-mul-q-2 Inv-loop μ-loop
+mul-q-2 c = omega (arith, mendable-both _ _ _ (both-above _ _ _ _ _ _ (c .before .loop-test .taken) _ (c .before .before .loop .inv .2 _ _ _ _ (c .before .before .before .before .before .pre .4) (c .before .before .before .before .before .pre .5))) .sums .left .2)
+
 cast-q : tie.Need-cast-q Inv-loop μ-loop
-cast-q c = omega (arith, within (both-above _ _ _ _ _ _ (c .before .loop-test .taken) _ (c .before .before .loop .inv .2 _ _ _ _ (c .before .before .before .before .before .pre .4) (c .before .before .before .before .before .pre .5)) .2 .first) .2)
+cast-q c = omega (arith, mendable-both _ _ _ (both-above _ _ _ _ _ _ (c .before .loop-test .taken) _ (c .before .before .loop .inv .2 _ _ _ _ (c .before .before .before .before .before .pre .4) (c .before .before .before .before .before .pre .5))) .sums .left .2)
 
 sub-i : tie.Need-sub-i Inv-loop μ-loop
 sub-i c = c .before .loop-test .taken
@@ -81,6 +84,7 @@ rise-spec =
     mul-q
     shared-slice-read-q
     cast-q
+    mul-q-2
     sub-i
     mul-s
     shared-slice-read-s

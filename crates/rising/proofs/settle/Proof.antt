@@ -26,6 +26,9 @@ mul-q c = let S = (c .before .loop .inv .2 _ _ _ _ (c .before .before .before .b
 shared-slice-read-q : tie.Need-shared-slice-read-q Inv-loop μ-loop
 shared-slice-read-q c = let S = (c .before .before .loop .inv .2 _ _ _ _ (c .before .before .before .before .before .pre .4)) in omega (arith, S .rising .deep, S .rising .way .long)
 
+mul-q-2 : tie.Need-mul-q-2 Inv-loop μ-loop
+mul-q-2 c = omega (arith, summable-above _ _ _ _ _ _ (c .before .loop-test .taken) _ (c .before .before .loop .inv .2 _ _ _ _ (c .before .before .before .before .before .pre .4)) .left .2)
+
 cast-q : tie.Need-cast-q Inv-loop μ-loop
 cast-q c = omega (arith, summable-above _ _ _ _ _ _ (c .before .loop-test .taken) _ (c .before .before .loop .inv .2 _ _ _ _ (c .before .before .before .before .before .pre .4)) .left .2)
 
@@ -72,6 +75,7 @@ settle-spec =
     mul-q
     shared-slice-read-q
     cast-q
+    mul-q-2
     sub-i
     mul-sum-up
     shared-slice-read-sum-up

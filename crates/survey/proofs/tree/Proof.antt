@@ -36,7 +36,7 @@ sub-survey : tie.Need-sub-survey
 sub-survey c = search needs
 
 survey-requires : tie.Need-survey-requires
-survey-requires c κs = record { long = omega (arith, c .before .before .before .before .before .get .ensures, c .before .before .before .before .before .before .before .pre .long); small = omega (arith, c .before .before .before .before .before .get .ensures, c .before .before .before .before .before .before .before .pre .bounded); least = omega arith; most = omega arith; ends = omega (arith, c .before .before .before .before .get2 .ensures, c .before .before .before .before .before .before .before .pre .bounded); most-floor = omega (arith, c .before .before .before .get3 .ensures, c .before .before .before .before .before .before .before .pre .bounded) }
+survey-requires c κs = record { long = omega (arith, c .before .before .before .before .before .get .ensures, c .before .before .before .before .before .before .before .pre .long); small = omega (arith, c .before .before .before .before .before .get .ensures, c .before .before .before .before .before .before .before .pre .bounded); least = omega arith; most = omega arith; whole = omega arith; ends = omega (arith, c .before .before .before .before .get2 .ensures, c .before .before .before .before .before .before .before .pre .bounded); most-floor = omega (arith, c .before .before .before .get3 .ensures, c .before .before .before .before .before .before .before .pre .bounded) }
 
 returns : tie.Need-returns
 returns c = no-tree _ _ _ _ _ _ (c .before .before .before .before .before .before .before .before .before .get .ensures) (c .before .before .before .before .before .before .before .before .get2 .ensures) (c .before .before .before .before .before .before .before .get3 .ensures) (c .before .before .before .before .before .before .get4 .ensures) (omega (arith, c .before .before .before .before .before .before .get4 .ensures, c .before .before .before .before .before .before .before .before .before .before .before .pre .bounded)) (c .before .before .before .before .before .allowed .ensures) _ _ _ (omega (arith, c .before .before .before .before .before .before .before .before .get2 .ensures, c .before .before .before .before .before .before .before .before .before .before .before .pre .bounded)) (zeros 64) (c .before .before .before .survey .ensures) (c .if1 .taken)

@@ -1,6 +1,7 @@
 -- `tree::graft`: the leaf moved, the new one beside it, the node over both (Starting). Assumes nothing.
 use mathlib.Core.Path.{refl}
 use borrow.Author.Needs.{needs}
+use native.Mathlib.Omega.{arith}
 use Rattle.turning.proofs.Sides.{leaf-fits, saved-as, copied-at}
 use Rattle.node.proofs.Reps.{within}
 use Rattle.tree.proofs.Starting.{saved-there, graft-in, leaf-in, low-leaves, over-in, over-both, grafted}
@@ -12,6 +13,9 @@ load-requires c κs = within (c .before .before .pre .able .ready .1 .stands)
 
 leaf-requires : tie.Need-leaf-requires
 leaf-requires c κs = tt
+
+mul-first : tie.Need-mul-first
+mul-first c = omega (arith, graft-in _ _ _ _ _ (c .before .before .before .before .before .pre) _ (c .before .before .load .ensures) .2)
 
 far-requires : tie.Need-far-requires
 far-requires c κs = graft-in _ _ _ _ _ (c .before .before .before .before .before .before .pre) _ (c .before .before .before .load .ensures) .2
@@ -46,6 +50,7 @@ graft-spec =
     (tie.spec
     load-requires
     leaf-requires
+    mul-first
     far-requires
     copy-requires
     near-requires

@@ -20,6 +20,9 @@ cast-leaf c = omega (arith, end-in _ _ _ _ _ (c .before .before .before .pre .1)
 sub-above : tie.Need-sub-above
 sub-above c = deep-one _ _ _ _ _ (c .before .before .before .pre .1) (c .before .before .before .pre .3) (c .before .before .before .pre .2)
 
+mul-far : tie.Need-mul-far
+mul-far c = omega (arith, end-in _ _ _ _ _ (c .before .before .before .before .pre .1) (c .before .before .before .before .pre .3) .2)
+
 far-requires : tie.Need-far-requires
 far-requires c κs = omega (arith, end-in _ _ _ _ _ (c .before .before .before .before .pre .1) (c .before .before .before .before .pre .3) .2)
 
@@ -52,6 +55,7 @@ take-out-spec =
     shared-slice-read-leaf
     cast-leaf
     sub-above
+    mul-far
     far-requires
     mul-copy
     shared-slice-read-copy

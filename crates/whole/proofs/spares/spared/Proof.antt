@@ -41,6 +41,9 @@ returns-2 c = read-spares _ _ _ _ false (c .before .before .before .before .befo
 sub-many-2 : tie.Need-sub-many-2 Inv-loop μ-loop
 sub-many-2 c = omega arith
 
+mul-near : tie.Need-mul-near Inv-loop μ-loop
+mul-near c = omega (arith, c .before .before .before .before .before .before .get .ensures, c .before .before .before .before .before .before .before .before .pre .bounded, c .if2 .left)
+
 near-requires : tie.Need-near-requires Inv-loop μ-loop
 near-requires c κs = omega (arith, c .before .before .before .before .before .before .get .ensures, c .before .before .before .before .before .before .before .before .pre .bounded, c .if2 .left)
 
@@ -52,6 +55,9 @@ spare-requires c κs = tt
 
 returns-3 : tie.Need-returns-3 Inv-loop μ-loop
 returns-3 c = read-spares _ _ _ _ false (c .before .before .before .before .before .before .before .before .before .before .get .ensures) (c .before .before .before .before .before .before .before .before .before .get2 .ensures) (c .before .before .before .before .before .before .before .before .get3 .ensures) (way-not _ _ _ _ _ _ (c .before .before .before .before .before .before .before .loop .inv) (c .before .before .before .before .before .before .loop-test .taken) _ _ (c .before .before .before .near .ensures) (c .before .before .load .ensures) (says-no _ (c .before .spare .result) (c .before .spare .ensures) (not-true _ (c .if3 .taken))))
+
+mul-far : tie.Need-mul-far Inv-loop μ-loop
+mul-far c = omega (arith, c .before .before .before .before .before .before .before .before .before .before .get .ensures, c .before .before .before .before .before .before .before .before .before .before .before .before .pre .bounded, c .before .before .before .before .if2 .left)
 
 far-requires : tie.Need-far-requires Inv-loop μ-loop
 far-requires c κs = omega (arith, c .before .before .before .before .before .before .before .before .before .before .get .ensures, c .before .before .before .before .before .before .before .before .before .before .before .before .pre .bounded, c .before .before .before .before .if2 .left)
@@ -92,10 +98,12 @@ spared-spec =
     returns
     returns-2
     sub-many-2
+    mul-near
     near-requires
     load-requires
     spare-requires
     returns-3
+    mul-far
     far-requires
     load-requires-2
     blank-requires
