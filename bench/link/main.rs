@@ -67,7 +67,7 @@ fn check(mem: &[u8], yes: bool) -> f64 {
     }) / times as f64
 }
 
-/// The root's seat. The children of a node with place q are at the seats 2q and 2q + 1.
+/// The root's seat. The children of a node with place q, whose link is 8q, are at the seats 2q and 2q + 1 (counted by nodes here).
 const ROOT: usize = 1;
 
 /// The word i of the node at a seat: lo, top, low, links.
@@ -78,12 +78,12 @@ fn at(seat: usize, i: usize) -> usize {
 /// Height and place.
 fn links(mem: &[u8], seat: usize) -> (u64, usize) {
     let w = word(mem, at(seat, 3));
-    (w >> 32, (w & 0xFFFF_FFFF) as usize)
+    (w >> 32, (w & 0xFFFF_FFFF) as usize / 8)
 }
 
 fn link(mem: &mut [u8], seat: usize, place: usize) {
     let height = links(mem, seat).0;
-    put(mem, at(seat, 3), height << 32 | place as u64);
+    put(mem, at(seat, 3), height << 32 | 8 * place as u64);
 }
 
 /// The last inner node on the right edge, and the last void: their seats.
@@ -107,7 +107,7 @@ fn shared(mem: &[u8]) -> Vec<u8> {
     }
     for pair in edge.windows(2).rev() {
         let (seat, left) = (pair[0], pair[1]);
-        let over = (links(&bad, left).0 + 1) << 32 | left as u64 / 2;
+        let over = (links(&bad, left).0 + 1) << 32 | 8 * (left as u64 / 2);
         for i in 0..4 {
             let value = word(&bad, at(left, i));
             put(&mut bad, at(left + 1, i), value);

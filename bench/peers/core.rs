@@ -12,6 +12,7 @@ extern "C" {
 /// Memory that starts at a multiple of 64 bytes, so that a place is one line of the cache.
 #[derive(Clone, Copy)]
 #[repr(align(64))]
+#[allow(dead_code)] // read through the slice over all of them
 struct Line([u8; 64]);
 
 pub struct Core {
@@ -25,7 +26,7 @@ impl Core {
     pub fn open(stream: &Stream) -> Core {
         let bytes = curlywether::need(stream.room);
         let lines = Box::leak(vec![Line([0; 64]); bytes.div_ceil(64)].into_boxed_slice());
-        let mut memory = unsafe { std::slice::from_raw_parts_mut(lines.as_mut_ptr() as *mut u8, bytes) };
+        let memory = unsafe { std::slice::from_raw_parts_mut(lines.as_mut_ptr() as *mut u8, bytes) };
         let opened = curlywether::open(&mut memory[..], stream.room, &stream.opening());
         assert_eq!(opened.code, 0, "the opening");
         let answers = vec![u64::MAX; 7 * stream.orders.len()];

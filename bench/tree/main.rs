@@ -2,8 +2,8 @@
 //! Each figure is the median of several rounds, in nanoseconds an operation; the memory is warm.
 use std::time::Instant;
 
-/// The root's seat; the place q has the seats 2 q and 2 q + 1 (docs/ARCHITECTURE.md).
-const ROOT: usize = 1;
+/// The root's seat; the place q has the seats 8 q and 8 q + 4 (docs/ARCHITECTURE.md).
+const ROOT: usize = 4;
 
 // A slice passes as a pointer and a length. The functions ask that a tree stands at the root (`Alone`, crates/tracing/specs).
 extern "C" {

@@ -12,6 +12,7 @@ use Rattle.node.specs.Layout.{nodeAt}
 use Rattle.node.specs.Rep.{Stands}
 use Rattle.node.specs.Paths.{longestWay, Child, Down, Reaches}
 use Rattle.search.specs.declared.Descent.{Descent}
+use Rattle.search.specs.declared.Lowered.{Lowered}
 use Rattle.search.specs.declared.Way.{Way}
 use Rattle.search.specs.declared.Found.{Found}
 
@@ -41,6 +42,18 @@ pub record Prolonged (m : List ℕ) (i : ℕ) (ws ws′ : List ℕ) (n s : ℕ) 
   pub stays : (j : ℕ) → j ≤ i → getD ws′ j 0 ≡ getD ws j 0
   pub steps : (j : ℕ) → i ≤ j → j < n → Child m (getD ws′ j 0) (getD ws′ (suc j) 0)
   pub last : getD ws′ n 0 ≡ s
+
+-- from the seat i steps down, d is where C's way down ends, which ws′ has noted to there, n steps down
+abbrev pub Descends : (m : List ℕ) (f i : ℕ) (ws ws′ : List ℕ) (n : ℕ) → Descent → Type 0
+Descends m f i ws ws′ n d = ((t : Tree) → Stands m (getD ws i 0) t → Descended m f t d) × Prolonged m i ws ws′ n (d .seat)
+
+-- one step of it is u: what is found from the seat noted next is found from the seat i steps down, with the step's visits
+pub record Lowers (m : List ℕ) (f i : ℕ) (ws ws′ : List ℕ) (u : Lowered) : Type 0 where
+  pub able : Descendable m (u .place) ws′ (i + 1)
+  pub lower : nodeAt m (getD ws′ (i + 1) 0) .height < nodeAt m (getD ws i 0) .height
+  pub len : length ws′ ≡ length ws
+  pub few : u .visits ≤ 2
+  pub on : (ws″ : List ℕ) (n : ℕ) (d : Descent) → Descends m f (i + 1) ws′ ws″ n d → Descends m f i ws ws″ n (record { seat = d .seat; visits = d .visits + u .visits })
 
 -- x stands on the left of the node noted j steps down
 pub record Beside (m ws : List ℕ) (j : ℕ) (x : Tree) : Type 0 where

@@ -3,7 +3,7 @@
 ghost use mathlib.Core.Path.{_≡_};
 ghost use mathlib.Core.Bool.{true, false};
 ghost use Prim.Native.Nat.{_*_, _≤_};
-ghost use lib.ListN.{length, getD};
+ghost use lib.ListN.{length};
 ghost use Rattle.numbers.specs.Case.{pick};
 ghost use Rattle.rule.specs.Key.{perTick};
 ghost use Rattle.rule.specs.Moments.{lastMoment};
@@ -12,7 +12,7 @@ ghost use Rattle.shape.specs.Visits.{published};
 ghost use Rattle.node.specs.Rep.{Stands};
 ghost use Rattle.node.specs.Paths.{longestWay};
 ghost use Rattle.search.specs.Trails.{Followable, Begun, Follows, FollowsOn, Ahead};
-ghost use Rattle.search.specs.Search.{Descendable, Searchable, Descended, Prolonged, Walked, Trodden, foundOf, Notes};
+ghost use Rattle.search.specs.Search.{Descendable, Descends, Lowers, Searchable, Walked, Trodden, foundOf, Notes};
 
 // The seat of the leaf where a descent ends, and the visits on the way to it.
 pub struct Descent {
@@ -76,10 +76,32 @@ fn by_turn(right: bool, y: u64, x: u64) -> u64
     if right { y } else { x }
 }
 
-// From the node noted `depth` steps down, whose children's place is given (0 for a leaf), down to the last leaf that ends at f or later:
-// right if the right child has such an end, else left. The way is noted on to the leaf; how far down that is goes to `noted` at once,
-// so that nobody waits for what is returned call by call. The left child is loaded after the note, so that neither place waits for the
-// choice between them (docs/DECISIONS.md).
+// A step of a descent: the place reached, and the visits.
+struct Lowered {
+    place: u64,
+    visits: u64,
+}
+
+// One step down from the node noted `depth` steps down, whose children's place is given, towards the last leaf that ends at f or later:
+// right if the right child has such an end, else left. It is noted. The left child is loaded after the note, so that neither place
+// waits for the choice between them (docs/DECISIONS.md).
+fn step_down(mem: &[u8], place: u64, f: u64, way: &mut [u16], depth: usize) -> Lowered
+    requires { ⌜ Descendable (now mem) place (now way) depth × (place ≡ 0 → ⊥) ⌝ }
+    ensures { λ u. ⌜ Lowers (now (mem .entry)) f depth (now (way .entry)) (now (way .exit)) u ⌝ }
+{
+    let right = node::load(mem, node::far(true, place));
+    let late = f <= right.top;
+    way[depth + 1] = node::near(!late, place) as u16;
+    let left = node::load(mem, node::near(true, place));
+    Lowered {
+        place: by_turn(late, right.place, left.place),
+        visits: step_visits(!late),
+    }
+}
+
+// From the node noted `depth` steps down, whose children's place is given (0 for a leaf), down to the last leaf that ends at f or later,
+// two steps a call. The way is noted on to the leaf; how far down that is goes to `noted` at once, so that nobody waits for what is
+// returned call by call.
 pub fn descend(
     mem: &[u8],
     place: u64,
@@ -89,7 +111,7 @@ pub fn descend(
     noted: &mut usize,
 ) -> Descent
     requires { ⌜ Descendable (now mem) place (now way) depth ⌝ }
-    ensures { λ d. ⌜ ((t : Tree) → Stands (now (mem .entry)) (getD (now (way .entry)) depth 0) t → Descended (now (mem .entry)) f t d) × Prolonged (now (mem .entry)) depth (now (way .entry)) (now (way .exit)) (now (noted .exit)) (d .seat) ⌝ }
+    ensures { λ d. ⌜ Descends (now (mem .entry)) f depth (now (way .entry)) (now (way .exit)) (now (noted .exit)) d ⌝ }
 {
     if place == 0 {
         *noted = depth;
@@ -98,21 +120,20 @@ pub fn descend(
             visits: 0,
         };
     }
-    let right = node::load(mem, node::far(true, place));
-    let late = f <= right.top;
-    way[depth + 1] = node::near(!late, place) as u16;
-    let left = node::load(mem, node::near(true, place));
-    let d = descend(
-        &mem[0..],
-        by_turn(late, right.place, left.place),
-        f,
-        way,
-        depth + 1,
-        noted,
-    );
+    let a = step_down(mem, place, f, way, depth);
+    let below = depth + 1;
+    if a.place == 0 {
+        *noted = below;
+        return Descent {
+            seat: way[below] as usize,
+            visits: a.visits,
+        };
+    }
+    let b = step_down(mem, a.place, f, way, below);
+    let d = descend(&mem[0..], b.place, f, way, below + 1, noted);
     Descent {
         seat: d.seat,
-        visits: d.visits + step_visits(!late),
+        visits: d.visits + b.visits + a.visits,
     }
 }
 
