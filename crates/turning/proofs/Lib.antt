@@ -1,3 +1,4 @@
 pub mod Sides
+pub mod Steps
 pub mod Turning
 pub mod Balancing
