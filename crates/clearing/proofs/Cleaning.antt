@@ -14,6 +14,7 @@ use Rattle.shape.specs.Clear.{join, Rest, gone, rest, meet, clear, unused, free
 use Rattle.shape.specs.JoinLaws.{clear-none, freed-none, clear-sides, freed-sides, clear-leaf, freed-leaf}
 use Rattle.node.specs.Layout.{Within, nodeAt, Copied}
 use Rattle.node.specs.Rep.{Stands}
+use Rattle.node.proofs.Seats.{near-half}
 use Rattle.node.proofs.Reps.{within, left-stands, right-stands, stands-nodes, copied-stands}
 use Rattle.node.proofs.Frames.{node-kept, within-kept}
 use Rattle.turning.specs.Turns.{Two, Arranged}
@@ -81,10 +82,10 @@ module _ (b n : ℕ) (h m : List ℕ) (s : ℕ) (ps : List ℕ) where
     R-ok = clear-ok b r (S .even .1)
 
     half : (8 * x) / 8 ≡ x
-    half = omega arith
+    half = near-half true x
 
     half-1 : (8 * x + 4) / 8 ≡ x
-    half-1 = omega arith
+    half-1 = near-half false x
 
     pub site-left : Site n h m (8 * x) l ps
     site-left = record {

@@ -15,12 +15,13 @@ use Rattle.shape.specs.SideLaws.{height-over, height-sides, over-sides}
 use Rattle.shape.specs.PlaceLaws.{same-self, same-other, same-none}
 use Rattle.node.specs.declared.Node.{Node}
 use Rattle.node.specs.Layout.{highest, Within, nodeAt, Kept, Over, Copied}
+use Rattle.summing.proofs.Sums.{read-at}
 use Rattle.node.specs.Rep.{Stands}
 use Rattle.node.proofs.Frames.{kept-then, kept-less, within-kept}
 use Rattle.node.proofs.Reps.{tall, within, stands-frame}
 use Rattle.node.proofs.Seats.{nearOf, farOf, nearSeat, farSeat, near-half, far-half, near-is, far-is, near-far, near-stands, far-stands, stands-past, copied-past, reads-height, Parts, parts}
 use Rattle.turning.specs.Turns.{Two, Both, Arranged, Balances}
-use Rattle.turning.proofs.Sides.{uses-over, uses-sides, apart, seat-free, two-on, two-over, copied-at, over-at, within-at, read-by}
+use Rattle.turning.proofs.Sides.{uses-over, uses-sides, apart, seat-free, two-on, two-over, copied-at, over-at, within-at}
 use Rattle.joining.specs.Joins.{Hangs}
 
 -- ---- with the tree on the side named first
@@ -122,7 +123,7 @@ module _ (m : List ℕ) (s : Bool) (t w : ℕ) (n k : Node) (en : n ≡ nodeAt m
     low-at = far-stands s v (f .first) (f .second)
 
     heights : (n .height ≡ height (near s a b)) × (k .height ≡ height (far s a b))
-    heights = (reads-height m _ n (read-by m (near-is s v e) en) high-at, reads-height m _ k (read-by m (far-is s v e) ek) low-at)
+    heights = (reads-height m _ n (read-at m (near-is s v e) en) high-at, reads-height m _ k (read-at m (far-is s v e) ek) low-at)
 
     arranged : (m′ : List ℕ) → Stands m′ t (hang s v (near s a b) (far s a b)) → Kept (λ z. same z t + uses (z / 8) (node v a b)) m m′
         → Arranged t (node v a b) (hang s v (near s a b) (far s a b)) m m′
@@ -147,7 +148,7 @@ module _ (m : List ℕ) (s : Bool) (t w : ℕ) (n k : Node) (en : n ≡ nodeAt m
   module _ (deep : k .height + 1 < n .height) where
     module _ (v : ℕ) (e : w ≡ 8 * v) (a b : Tree) (f : Two m t v a b) where
       open-high : Parts m s (n .place) (near s a b)
-      open-high = parts m s (nearSeat s v) n (read-by m (near-is s v e) en) (omega arith) (near s a b) (high-at v e a b f)
+      open-high = parts m s (nearSeat s v) n (read-at m (near-is s v e) en) (omega arith) (near s a b) (high-at v e a b f)
 
       step : Step m s t v (open-high .q) (open-high .a) (open-high .c) (far s a b)
       step =

@@ -2,6 +2,7 @@
 -- leave of it; how a step begins and how it ends.
 use mathlib.Core.Path.{_≡_, refl, sym, ap, _∙_}
 use mathlib.Core.Logic.{inl, inr}
+use mathlib.Core.Bool.{true, false}
 use mathlib.Core.List.{List, [], _∷_}
 use Prim.Native.Nat.{ℕ, zero, suc, _+_, _*_, _/_, _%_, _^_, _≤_, _<_}
 use native.Mathlib.Decide.{ℕ-discrete, decLt}
@@ -16,6 +17,8 @@ use Rattle.shape.specs.PlaceLaws.{same-self, same-other, same-none}
 use Rattle.node.specs.declared.Node.{Node}
 use Rattle.node.specs.Layout.{headerWords, rootSeat, bytesFor, Within, base, nodeAt, seatOf, leafNode, Kept, Saved}
 use Rattle.node.specs.Rep.{Stands}
+use Rattle.node.proofs.Seats.{near-half}
+use Rattle.turning.proofs.Sides.{seat-free}
 use Rattle.node.proofs.Frames.{word-kept, node-kept, kept-then}
 use Rattle.node.proofs.Reps.{within, stands-nodes, stands-frame, stands-apart}
 use Rattle.state.specs.State.{State, first, rest, places}
@@ -94,11 +97,8 @@ gives m m1 m2 m3 p k em en eu ev f el g =
     record {
       left = node-kept _ m2 m3 (G .kept) (8 * p) (omega arith) (same-other (8 * p) (8 * p + 4) (λ e. omega arith)) ∙ F .at;
       right = G .at;
-      kept = kept-then (F .kept) (G .kept) (λ z h. (off z (8 * p) h (omega arith), off z (8 * p + 4) h (omega arith)));
+      kept = kept-then (F .kept) (G .kept) (λ z h. (seat-free z (8 * p) p (near-half true p) h, seat-free z (8 * p + 4) p (near-half false p) h));
     }
-  where
-    off : (z u : ℕ) → same (z / 8) p ≡ 0 → u / 8 ≡ p → same z u ≡ 0
-    off z u h q = same-other z u (λ e. same-none (z / 8) p h (ap (λ (y : ℕ). y / 8) e ∙ q))
 
 -- ---- past the n places
 pub past-none : (n : ℕ) (m : List ℕ) → Past n m m

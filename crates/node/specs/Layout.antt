@@ -22,6 +22,10 @@ base s = s + 24
 abbrev pub rootSeat : ℕ
 rootSeat = 4
 
+-- the left seat of the place where the seat x is
+abbrev pub home : ℕ → ℕ
+home x = x / 8 * 8
+
 -- s is a seat, the node there is inside the memory, and s can be noted in a way
 abbrev pub Within : List ℕ → ℕ → Type 0
 Within m s = (8 * s + 224 ≤ length m) × (4 ≤ s) × (s < 65536) × (s % 4 ≡ 0)

@@ -2,10 +2,10 @@
 -- Whoever goes down may note it, and who goes up again needs no second search.
 use mathlib.Core.Path.{_≡_}
 use mathlib.Core.List.{List}
-use Prim.Native.Nat.{ℕ, suc, _*_, _/_, _%_, _<_}
+use Prim.Native.Nat.{ℕ, suc, _%_, _<_}
 use lib.ListN.{length, getD}
 use Rattle.shape.specs.Tree.{Tree, In}
-use Rattle.node.specs.Layout.{nodeAt}
+use Rattle.node.specs.Layout.{nodeAt, home}
 use Rattle.node.specs.Rep.{Stands}
 
 -- a way from the root down to a leaf has at most this many seats (a link's trees are lower)
@@ -15,7 +15,7 @@ longestWay = 32
 -- x is a seat of the place where the children of the inner node at w are
 pub record Child (m : List ℕ) (w x : ℕ) : Type 0 where
   pub inner : nodeAt m w .height ≡ 0 → ⊥
-  pub is : 8 * (x / 8) ≡ nodeAt m w .place
+  pub is : home x ≡ nodeAt m w .place
   pub seat : x % 4 ≡ 0
 
 -- the first d + 1 seats of the list go down from s

@@ -5,7 +5,7 @@ use Prim.Native.Nat.{ℕ, zero, suc, _+_, _*_, _-_, _/_, _≤_, _<_}
 use native.Mathlib.Omega.{arith}
 use lib.ListN.{getD}
 use Rattle.node.specs.declared.Node.{Node}
-use Rattle.node.specs.Layout.{Within, nodeAt, Summable, Summed}
+use Rattle.node.specs.Layout.{Within, nodeAt, Summable, Summed, home}
 use Rattle.turning.proofs.Balancing.{mendable-both}
 use Rattle.turning.specs.Turns.{Both, Balances}
 use Rattle.tracing.specs.Ways.{Leads, Way}
@@ -35,7 +35,7 @@ module _ (c : Change) (m0 : List ℕ) (t d : ℕ) (ws : List ℕ) where
     step : Step c m0 (at j) (at (suc j)) leads m (R .is) inner
     step = step-at c m0 (at j) (at (suc j)) leads m (R .is) inner ready
 
-    rising-both : Both m (at j) (at (suc j) / 8 * 8)
+    rising-both : Both m (at j) (home (at (suc j)))
     rising-both = step .both
 
     rising-in : Within m (at j)
@@ -44,7 +44,7 @@ module _ (c : Change) (m0 : List ℕ) (t d : ℕ) (ws : List ℕ) where
     rising-node : nodeAt m (at j) ≡ nodeAt m0 (at j)
     rising-node = step .node
 
-    rising-next : Turned c → (m2 : List ℕ) → Balances (at j) (at (suc j) / 8 * 8) m m2 → Rising c m0 t d ws j m2
+    rising-next : Turned c → (m2 : List ℕ) → Balances (at j) (home (at (suc j))) m m2 → Rising c m0 t d ws j m2
     rising-next T m2 o =
         record {
           begun = R .begun;
@@ -60,13 +60,13 @@ module _ (c : Change) (m0 : List ℕ) (t d : ℕ) (ws : List ℕ) where
 
   -- by summing up
   module _ (j : ℕ) (m : List ℕ) (S : Settling c m0 t d ws (suc j) m) where
-    settling-in : Summable m (at j) (at (suc j) / 8 * 8)
-    settling-in = mendable-both m (at j) (at (suc j) / 8 * 8) (rising-both j m (S .rising)) .sums
+    settling-in : Summable m (at j) (home (at (suc j)))
+    settling-in = mendable-both m (at j) (home (at (suc j))) (rising-both j m (S .rising)) .sums
 
     settling-node : nodeAt m (at j) ≡ nodeAt m0 (at j)
     settling-node = rising-node j m (S .rising)
 
-    settling-next : (m2 : List ℕ) → Summed (at j) (at (suc j) / 8 * 8) m m2 → Settling c m0 t d ws j m2
+    settling-next : (m2 : List ℕ) → Summed (at j) (home (at (suc j))) m m2 → Settling c m0 t d ws j m2
     settling-next m2 o =
         let R = S .rising in
         record {
@@ -96,7 +96,7 @@ module _ (c : Change) (m0 : List ℕ) (t d : ℕ) (ws : List ℕ) where
   stopped (suc i) m S e = stopped i m (settling-still i m S e) (settling-node i m S)
 
   -- a seat whose sums stay: the way above it stays too
-  halted : (j : ℕ) (m m2 : List ℕ) → Settling c m0 t d ws (suc j) m → Summed (at j) (at (suc j) / 8 * 8) m m2 → m2 ≡ m → Becomes c t m0 m2
+  halted : (j : ℕ) (m m2 : List ℕ) → Settling c m0 t d ws (suc j) m → Summed (at j) (home (at (suc j))) m m2 → m2 ≡ m → Becomes c t m0 m2
   halted j m m2 S o e = stopped j m2 (settling-next j m S m2 o) (rw e (settling-node j m S))
 
   -- ---- the same from the seat i to the one before it
@@ -108,8 +108,8 @@ module _ (c : Change) (m0 : List ℕ) (t d : ℕ) (ws : List ℕ) where
       back : Rising c m0 t d ws (suc (i - 1)) m
       back = subst (λ z. Rising c m0 t d ws z m) (sym next) R
 
-      pub both-above : Both m (at (i - 1)) (at i / 8 * 8)
-      both-above = subst (λ z. Both m (at (i - 1)) (at z / 8 * 8)) next (rising-both (i - 1) m back)
+      pub both-above : Both m (at (i - 1)) (home (at i))
+      both-above = subst (λ z. Both m (at (i - 1)) (home (at z))) next (rising-both (i - 1) m back)
 
       pub within-above : Within m (at (i - 1))
       within-above = rising-in (i - 1) m back
@@ -117,19 +117,19 @@ module _ (c : Change) (m0 : List ℕ) (t d : ℕ) (ws : List ℕ) where
       pub node-above : nodeAt m (at (i - 1)) ≡ nodeAt m0 (at (i - 1))
       node-above = rising-node (i - 1) m back
 
-      pub rises : Turned c → (m2 : List ℕ) → Balances (at (i - 1)) (at i / 8 * 8) m m2 → Rising c m0 t d ws (i - 1) m2
-      rises T m2 o = rising-next (i - 1) m back T m2 (subst (λ z. Balances (at (i - 1)) (at z / 8 * 8) m m2) (sym next) o)
+      pub rises : Turned c → (m2 : List ℕ) → Balances (at (i - 1)) (home (at i)) m m2 → Rising c m0 t d ws (i - 1) m2
+      rises T m2 o = rising-next (i - 1) m back T m2 (subst (λ z. Balances (at (i - 1)) (home (at z)) m m2) (sym next) o)
 
     module _ (m : List ℕ) (S : Settling c m0 t d ws i m) where
       back-settling : Settling c m0 t d ws (suc (i - 1)) m
       back-settling = subst (λ z. Settling c m0 t d ws z m) (sym next) S
 
-      pub summable-above : Summable m (at (i - 1)) (at i / 8 * 8)
-      summable-above = subst (λ z. Summable m (at (i - 1)) (at z / 8 * 8)) next (settling-in (i - 1) m back-settling)
+      pub summable-above : Summable m (at (i - 1)) (home (at i))
+      summable-above = subst (λ z. Summable m (at (i - 1)) (home (at z))) next (settling-in (i - 1) m back-settling)
 
-      module _ (m2 : List ℕ) (o : Summed (at (i - 1)) (at i / 8 * 8) m m2) where
-        summed : Summed (at (i - 1)) (at (suc (i - 1)) / 8 * 8) m m2
-        summed = subst (λ z. Summed (at (i - 1)) (at z / 8 * 8) m m2) (sym next) o
+      module _ (m2 : List ℕ) (o : Summed (at (i - 1)) (home (at i)) m m2) where
+        summed : Summed (at (i - 1)) (home (at (suc (i - 1)))) m m2
+        summed = subst (λ z. Summed (at (i - 1)) (home (at z)) m m2) (sym next) o
 
         pub settles : Settling c m0 t d ws (i - 1) m2
         settles = settling-next (i - 1) m back-settling m2 summed

@@ -13,7 +13,7 @@ use Rattle.shape.specs.SideLaws.{height-sides}
 use Rattle.shape.specs.PlaceLaws.{same-self, same-other, same-none}
 use Rattle.shape.specs.EvenLaws.{kids}
 use Rattle.node.specs.declared.Node.{Node}
-use Rattle.node.specs.Layout.{nodeAt, summedNode, overNode, Kept, Over, Summed}
+use Rattle.node.specs.Layout.{nodeAt, summedNode, overNode, Kept, Over, Summed, home}
 use Rattle.node.specs.Rep.{Stands}
 use Rattle.node.proofs.Frames.{kept-none, kept-then, node-kept, within-kept}
 use Rattle.node.proofs.Reps.{seen, tall, within, stands-frame, left-stands, right-stands}
@@ -53,7 +53,7 @@ module _ (c : Change) (m0 : List ℕ) (w x : ℕ) (L : Leads m0 (keyOf c) w x) w
     y-half = ap (λ (z : ℕ). z / 8) y-is ∙ far-half s v
 
     -- by the number that the code has of it
-    pub place-at : x / 8 * 8 ≡ 8 * v
+    pub place-at : home x ≡ 8 * v
     place-at = omega (arith, x-half)
 
     pub leads : s ≡ ltb (keyOf c) (lo r)
@@ -107,7 +107,7 @@ module _ (c : Change) (m0 : List ℕ) (w x : ℕ) (L : Leads m0 (keyOf c) w x) w
           (λ z. omega (arith, B .once z, uses-sides z s l r, after-uses c z (near s l r) i))
           (omega (arith, B .low, after-height c (near s l r), height-sides s l r))
 
-      pub both-at : Both m w (x / 8 * 8)
+      pub both-at : Both m w (home x)
       both-at = (v, place-at, near s A F, far s A F, two)
 
       changed : (m2 : List ℕ) (k : ℕ → ℕ) → Stands m2 w (after c (node v l r)) → Kept k m m2 → ((z : ℕ) → same z w + (same (z / 8) v + uses (z / 8) A + uses (z / 8) F) ≡ 0 → k z ≡ 0) → Changed c w (node v l r) m0 m2
@@ -121,7 +121,7 @@ module _ (c : Change) (m0 : List ℕ) (w x : ℕ) (L : Leads m0 (keyOf c) w x) w
           }
 
       -- by a balance
-      pub carried : Turned c → (m2 : List ℕ) → Balances w (x / 8 * 8) m m2 → Changed c w (node v l r) m0 m2
+      pub carried : Turned c → (m2 : List ℕ) → Balances w (home x) m m2 → Changed c w (node v l r) m0 m2
       carried t m2 bal =
           let b = bal v place-at _ _ two in
           changed m2 _ (rw (after-side c v l r s leads t i) (b .stands)) (b .kept) (λ z e. omega (arith, e, uses-sides (z / 8) s A F))
@@ -177,7 +177,7 @@ module _ (c : Change) (m0 : List ℕ) (w x : ℕ) (L : Leads m0 (keyOf c) w x) w
 
     -- what the step asks, and that the node at w is as it was
     pub record Step : Type 0 where
-      pub both : Both m w (x / 8 * 8)
+      pub both : Both m w (home x)
       pub node : nodeAt m w ≡ nodeAt m0 w
 
     pub step-at : Ready c m0 w → Step
@@ -188,17 +188,17 @@ module _ (c : Change) (m0 : List ℕ) (w x : ℕ) (L : Leads m0 (keyOf c) w x) w
         go (node v l r) B =
             record { both = both-at c m0 w x L v l r B m g (kid-high v l r B); node = node-same c m0 w x L v l r B m g (kid-high v l r B) }
 
-    pub carries : Turned c → (m2 : List ℕ) → Balances w (x / 8 * 8) m m2 → Becomes c w m0 m2
+    pub carries : Turned c → (m2 : List ℕ) → Balances w (home x) m m2 → Becomes c w m0 m2
     carries t m2 o (leaf j f) B = absurd (L .inner (tall (B .stands)))
     carries t m2 o (node v l r) B = carried c m0 w x L v l r B m g (kid-high v l r B) t m2 o
 
-    pub sums-up : nodeAt m x .height ≡ nodeAt m0 x .height → (m2 : List ℕ) → Summed w (x / 8 * 8) m m2 → Becomes c w m0 m2
+    pub sums-up : nodeAt m x .height ≡ nodeAt m0 x .height → (m2 : List ℕ) → Summed w (home x) m m2 → Becomes c w m0 m2
     sums-up h m2 o (leaf j f) B = absurd (L .inner (tall (B .stands)))
     sums-up h m2 o (node v l r) B = summed-up c m0 w x L v l r B m g (kid-high v l r B) h m2 (rw (place-at c m0 w x L v l r B) at o)
 
-    pub stays : nodeAt m x ≡ nodeAt m0 x → Ready c m0 w → Summed w (x / 8 * 8) m m
+    pub stays : nodeAt m x ≡ nodeAt m0 x → Ready c m0 w → Summed w (home x) m m
     stays e b = go (b .0) (b .1)
       where
-        go : (tr : Tree) → Begun c m0 w tr → Summed w (x / 8 * 8) m m
+        go : (tr : Tree) → Begun c m0 w tr → Summed w (home x) m m
         go (leaf j f) B = absurd (L .inner (tall (B .stands)))
         go (node v l r) B = rw (place-at c m0 w x L v l r B) (still-summed c m0 w x L v l r B m g (kid-high v l r B) e)

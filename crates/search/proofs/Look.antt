@@ -3,13 +3,13 @@
 use mathlib.Core.Path.{_≡_, refl, sym, ap, _∙_}
 use mathlib.Core.Bool.{Bool, true, false, not}
 use mathlib.Core.List.{List}
-use Prim.Native.Nat.{ℕ, _+_, _*_, _/_, _%_, _<_, max}
+use Prim.Native.Nat.{ℕ, _+_, _*_, _%_, _<_, max}
 use native.Mathlib.Omega.{arith}
 use Rattle.numbers.specs.Case.{pick}
 use Rattle.shape.specs.Tree.{Tree, leaf, node, height, lo, top}
 use Rattle.shape.specs.Side.{near}
 use Rattle.node.specs.declared.Node.{Node}
-use Rattle.node.specs.Layout.{Within, nodeAt}
+use Rattle.node.specs.Layout.{Within, nodeAt, home}
 use Rattle.node.specs.Rep.{Stands}
 use Rattle.node.proofs.Reps.{seen, within, tall, left-stands, right-stands}
 use Rattle.node.proofs.Seats.{nearOf, near-stands}
@@ -80,7 +80,7 @@ module _ (b : Bool) {m : List ℕ} {s q : ℕ} (e : q ≡ nodeAt m s .place) (h 
   child-lower t f = let i = inner-here e h t f in omega (arith, ap (λ (a : ℕ). nodeAt m a .height) ex, tall (i .child b), i .lower b, tall f)
 
 -- the seat of a child, by its place
-pub child-is : (b : Bool) (x q l : ℕ) → x ≡ nearOf b q → q ≡ 8 * l → (8 * (x / 8) ≡ q) × (x % 4 ≡ 0)
+pub child-is : (b : Bool) (x q l : ℕ) → x ≡ nearOf b q → q ≡ 8 * l → (home x ≡ q) × (x % 4 ≡ 0)
 child-is true x q l ex e = omega arith
 child-is false x q l ex e = omega arith
 

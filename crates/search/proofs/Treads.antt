@@ -107,7 +107,7 @@ beside-down m root d ws x (suc i) D h l e v =
     let q : suc i ≡ i + 1 = omega arith in
     let s = D .steps i (omega arith) in
     let P : Down m root i ws = record { long = omega (arith, D .long); first = D .first; steps = λ a b. D .steps a (omega arith) } in
-    rw q (down-next m root i ws P x (record { inner = s .inner; is = ap (λ (y : ℕ). 8 * y) e ∙ s .is; seat = v }) (omega (arith, D .long)))
+    rw q (down-next m root i ws P x (record { inner = s .inner; is = ap (λ (y : ℕ). y * 8) e ∙ s .is; seat = v }) (omega (arith, D .long)))
 
 -- a way prolonged
 prolonged-down : (m : List ℕ) (root i : ℕ) (ws ws′ : List ℕ) (n x : ℕ) → Down m root i ws → Prolonged m i ws ws′ n x → Down m root n ws′

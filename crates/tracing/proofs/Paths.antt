@@ -13,7 +13,7 @@ use borrow.Author.Tests.{lt-ltb, le-ltb}
 use Rattle.shape.specs.Tree.{Tree, leaf, node, lo, Ord, In}
 use Rattle.shape.specs.TreeLaws.{lo-in, in-ord}
 use Rattle.node.specs.declared.Node.{Node}
-use Rattle.node.specs.Layout.{nodeAt}
+use Rattle.node.specs.Layout.{nodeAt, home}
 use Rattle.node.specs.Rep.{Stands}
 use Rattle.node.specs.Paths.{longestWay, Down}
 use Rattle.node.proofs.Reps.{seen, tall, one-tree}
@@ -22,7 +22,7 @@ use Rattle.tracing.specs.Alone.{Sole}
 use Rattle.tracing.specs.Ways.{Leads, Way, Partway}
 
 -- a seat of a place is its left or its right one
-sides : (x w : ℕ) → x % 4 ≡ 0 → 8 * (x / 8) ≡ w → (x ≡ nearOf true w) ⊎ (x ≡ nearOf false w)
+sides : (x w : ℕ) → x % 4 ≡ 0 → home x ≡ w → (x ≡ nearOf true w) ⊎ (x ≡ nearOf false w)
 sides x w v h = elim (ℕ-discrete x w) [ yes e ↦ inl e | no n ↦ inr (omega arith) ]
 
 module _ (m : List ℕ) (t d : ℕ) (ws : List ℕ) (D : Down m t d ws) where

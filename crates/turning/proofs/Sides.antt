@@ -82,6 +82,3 @@ mendable-at m e d i = rw (e, d) i
 
 pub within-at : (m : List ℕ) {u u′ : ℕ} → u ≡ u′ → Within m u′ → Within m u
 within-at m e i = rw e i
-
-pub read-by : (m : List ℕ) {n : Node} {u u′ : ℕ} → u ≡ u′ → n ≡ nodeAt m u → n ≡ nodeAt m u′
-read-by m e h = rw e at h

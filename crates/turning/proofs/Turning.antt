@@ -11,6 +11,7 @@ use Rattle.shape.specs.Side.{near, far}
 use Rattle.shape.specs.Arrange.{turn}
 use Rattle.node.specs.declared.Node.{Node}
 use Rattle.node.specs.Layout.{Within, nodeAt, Kept, Over, Copied, Mendable}
+use Rattle.summing.proofs.Sums.{read-at}
 use Rattle.node.specs.Rep.{Stands}
 use Rattle.shape.specs.TurnLaws.{twice-over, turn-over, weight-turn, height-turn}
 use Rattle.shape.specs.SideLaws.{height-over, height-sides}
@@ -18,7 +19,7 @@ use Rattle.node.proofs.Frames.{kept-less}
 use Rattle.node.proofs.Reps.{tall, within}
 use Rattle.node.proofs.Seats.{nearOf, farOf, nearSeat, farSeat, near-half, near-is, far-is, near-stands, far-stands, reads-height, Parts, parts}
 use Rattle.turning.specs.Turns.{Two, Both, Arranged, Turns}
-use Rattle.turning.proofs.Sides.{uses-over, uses-sides, apart, copied-at, over-at, mendable-at, within-at, read-by}
+use Rattle.turning.proofs.Sides.{uses-over, uses-sides, apart, copied-at, over-at, mendable-at, within-at}
 use Rattle.turning.proofs.Steps.{Single, mend1, mend2, single-end, Double, e1, high1, mend-x, mend-w, mend-y, double-end}
 
 -- ---- the high tree taken apart by what was read
@@ -35,10 +36,10 @@ module _ (m : List ℕ) (s : Bool) (t w : ℕ) (n : Node) (en : n ≡ nodeAt m (
     steep-here = rw e at big
 
     heights : (n .height ≡ height (near s a b)) × (height (far s a b) + 2 ≤ height (near s a b))
-    heights = (reads-height m (nearSeat s v) n (read-by m (near-is s v e) en) high-at, omega (arith, tall high-at, tall low-at, steep-here))
+    heights = (reads-height m (nearSeat s v) n (read-at m (near-is s v e) en) high-at, omega (arith, tall high-at, tall low-at, steep-here))
 
     open-high : Parts m s (n .place) (near s a b)
-    open-high = parts m s (nearSeat s v) n (read-by m (near-is s v e) en) (omega (arith, heights)) (near s a b) high-at
+    open-high = parts m s (nearSeat s v) n (read-at m (near-is s v e) en) (omega (arith, heights)) (near s a b) high-at
 
     single : Single m s t (t / 8) v (open-high .q) (open-high .a) (open-high .c) (far s a b)
     single =
@@ -90,7 +91,7 @@ module _ (m : List ℕ) (s : Bool) (t w : ℕ) (n : Node) (en : n ≡ nodeAt m (
         → (outer .height ≡ height (open-high v e a b f .a)) × (inner .height ≡ height (open-high v e a b f .c))
     compared v e a b f =
         let p = open-high v e a b f in
-        (reads-height m _ outer (read-by m (near-is s (p .q) (p .at)) eo) (p .a-at), reads-height m _ inner (read-by m (far-is s (p .q) (p .at)) ei) (p .c-at))
+        (reads-height m _ outer (read-at m (near-is s (p .q) (p .at)) eo) (p .a-at), reads-height m _ inner (read-at m (far-is s (p .q) (p .at)) ei) (p .c-at))
 
     pub turn-single : (m1 m2 m3 : List ℕ) → inner .height ≤ outer .height → Copied (farOf s (n .place)) (nearOf s w) m m1
         → Over (farOf s (n .place)) w m1 m2 → Over t (n .place) m2 m3 → Turns s t w m m3
@@ -106,7 +107,7 @@ module _ (m : List ℕ) (s : Bool) (t w : ℕ) (n : Node) (en : n ≡ nodeAt m (
         open-inner : Parts m s (inner .place) (open-high v e a b f .c)
         open-inner =
             let p = open-high v e a b f in
-            parts m s _ inner (read-by m (far-is s (p .q) (p .at)) ei) (omega arith) (p .c) (p .c-at)
+            parts m s _ inner (read-at m (far-is s (p .q) (p .at)) ei) (omega arith) (p .c) (p .c-at)
 
         double : Double m s t (t / 8) v (open-high v e a b f .q) (open-inner .q) (open-high v e a b f .a) (open-inner .a) (open-inner .c) (far s a b)
         double =

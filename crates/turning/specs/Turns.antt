@@ -29,8 +29,12 @@ pub record Arranged (s : ℕ) (was res : Tree) (m m′ : List ℕ) : Type 0 wher
 abbrev pub Both : List ℕ → (s w : ℕ) → Type 0
 Both m s w = (v : ℕ) × (w ≡ 8 * v) × (a : Tree) × (b : Tree) × Two m s v a b
 
+-- of every two trees there, the tree after is what f makes of the place and the two
+abbrev pub Arranges : (f : ℕ → Tree → Tree → Tree) → (s w : ℕ) → (m m′ : List ℕ) → Type 0
+Arranges f s w m m′ = (v : ℕ) → w ≡ 8 * v → (a b : Tree) → Two m s v a b → Arranged s (node v a b) (f v a b) m m′
+
 abbrev pub Turns : Bool → (s w : ℕ) → (m m′ : List ℕ) → Type 0
-Turns left s w m m′ = (v : ℕ) → w ≡ 8 * v → (a b : Tree) → Two m s v a b → Arranged s (node v a b) (turn left v (near left a b) (far left a b)) m m′
+Turns left s w m m′ = Arranges (λ v a b. turn left v (near left a b) (far left a b)) s w m m′
 
 abbrev pub Balances : (s w : ℕ) → (m m′ : List ℕ) → Type 0
-Balances s w m m′ = (v : ℕ) → w ≡ 8 * v → (a b : Tree) → Two m s v a b → Arranged s (node v a b) (balance v a b) m m′
+Balances s w m m′ = Arranges balance s w m m′
