@@ -6,13 +6,13 @@ use mathlib.Core.Bool.{false}
 use mathlib.Core.List.{List, [], _∷_}
 use Prim.Native.Nat.{ℕ, zero, suc, _+_, _*_, _≤_}
 use Rattle.numbers.specs.Case.{pick}
-use Rattle.numbers.specs.Powers.{Log2}
 use Rattle.rule.specs.Moments.{openEnd}
 use Rattle.rule.specs.Settings.{Settings}
 use Rattle.rule.specs.Fit.{hold, free}
 use Rattle.rule.specs.Starts.{Start, starts}
 use Rattle.rule.specs.Voids.{Voids}
 use Rattle.rule.specs.Choice.{NoFit, MinSV}
+use Rattle.rule.specs.Height.{Allowed}
 use Rattle.rule.specs.Kept.{stays}
 use Rattle.rule.specs.Key.{perTick, startOf, channelOf}
 use Rattle.rule.specs.Order.{Order, booking, sweep}
@@ -29,9 +29,9 @@ Many (suc n) W = (c : ℕ) × (s : ℕ) × (e : ℕ) × W c s e × Many n (λ c�
 abbrev pub Leaves : Voids → Tree → Type 0
 Leaves W T = Ord 0 (openEnd * perTick) T × ((c s e : ℕ) → W c s e ↔ ((k : ℕ) × In k e T × (channelOf k ≡ c) × (startOf k ≡ s)))
 
--- (3) "at most t(8⌊log2 m⌋+1)": n visits for t starts tried, with m voids kept
+-- (3) "at most t(8⌊log2 m⌋+1)": n visits for t starts tried, with m voids kept, whose tree may be 2⌊log2 m⌋ high
 abbrev pub Bounded : (m t n : ℕ) → Type 0
-Bounded m t n = (w : ℕ) → Log2 m w → n ≤ t * (8 * w + 1)
+Bounded m t n = (h : ℕ) (a : Allowed m h) → n ≤ t * (8 * a .whole + 1)
 
 -- "A refusal has 0 in all but code and count"
 abbrev pub refusal : (code count : ℕ) → List ℕ

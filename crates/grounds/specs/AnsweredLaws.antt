@@ -19,7 +19,7 @@ use Rattle.rule.specs.Key.{startOf, channelOf}
 use Rattle.rule.specs.Order.{Order, booking, sweep}
 use Rattle.rule.specs.Answer.{booked, refused, seven}
 use Rattle.rule.specs.Codes.{bookingCode, sweepCode, tooMany, chosenReply}
-use Rattle.shape.specs.Tree.{Tree, size, Balanced, Ord}
+use Rattle.shape.specs.Tree.{Tree, size, HeightRule, Ord}
 use Rattle.shape.specs.Voids.{VoidsIn}
 use Rattle.shape.specs.Visits.{Out, none, some, published}
 use Rattle.shape.specs.SearchLaws.{search-taken, search-nothing, search-bound}
@@ -87,9 +87,9 @@ taken-seven : (b : Bool) (c i r f k : ℕ) → seven (pick b (refused 8) (booked
 taken-seven true c i r f k = refl
 taken-seven false c i r f k = refl
 
-module _ (a b : ℕ) (T : Tree) (o : Ord a b T) (B : Balanced T) (W : Voids) (f : (c s e : ℕ) → VoidsIn T c s e ↔ W c s e) (g : Settings) (floor l : ℕ) where
+module _ (a b : ℕ) (T : Tree) (o : Ord a b T) (B : HeightRule T) (W : Voids) (f : (c s e : ℕ) → VoidsIn T c s e ↔ W c s e) (g : Settings) (floor l : ℕ) where
   bounded : (r k t n : ℕ) → Bounded (size T) t n → Bounded (size T) (suc t) (n + (published r k T) .visits)
-  bounded r k t n h w q = omega (arith, h w q, search-bound r k T w B q, suc-mul t (8 * w + 1))
+  bounded r k t n h i a = omega (arith, h i a, search-bound r k T B i a, suc-mul t (8 * a .whole + 1))
 
   tries : (xs : List Start) (t n : ℕ) → Bounded (size T) t n
       → let y = seek T (hold g l) xs in Tries W T g floor (size T) l xs t n (seven (chosenReply g floor (size T) l (choice (y .out))) (n + y .count))
@@ -148,7 +148,7 @@ module _ (s : State) (S : Sound s) (W : Voids) (f : (c b e : ℕ) → Has (voids
       go : (x : ℕ) → let y = bookAs x s r l p in let a = seven (y .reply) (y .count) in Unless x (Booked W (s .settings) (s .floor) r l p a) a
       go zero =
           let y = bookAs 0 s r l p in
-          let t = tries 0 mostKey (s .tree) (S .ordered) (S .balanced) W inside (s .settings) (s .floor) l xs 0 0 (λ w q. omega arith) in
+          let t = tries 0 mostKey (s .tree) (S .ordered) (S .high) W inside (s .settings) (s .floor) l xs 0 0 (λ w q. omega arith) in
           let e : 0 + y .count ≡ y .count = omega arith in
           (size (s .tree), s .tree, many, leaves, subst (λ n. Tries W (s .tree) (s .settings) (s .floor) (size (s .tree)) l xs 0 0 (seven (y .reply) n)) e t)
       go (suc x) = refl

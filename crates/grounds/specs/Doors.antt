@@ -9,13 +9,12 @@ use native.Mathlib.Omega.{arith}
 use lib.ListN.{length, getD, drop, length-append, length-drop}
 use lib.Seq.{drop-append-seam}
 use Rattle.numbers.specs.Case.{case-eq}
-use Rattle.numbers.specs.Words.{word}
+use Rattle.numbers.specs.Words.{Bytes, word}
 use Rattle.tally.specs.declared.Tally.{Tally}
 use Rattle.rule.specs.Answer.{Reply, booked, swept, refused, seven, numbersOf}
 use Rattle.tally.specs.Counts.{rowOf, rowAt, raised}
 use Rattle.rule.specs.Order.{Order, booking, sweep}
 use Rattle.order.specs.Records.{Reading, unread, opening, order, reading}
-use Rattle.node.proofs.Same.{Bytes}
 use Rattle.state.specs.State.{State}
 use Rattle.state.specs.Sound.{Sound}
 use Rattle.state.specs.Act.{act}

@@ -9,7 +9,7 @@ use Rattle.tally.specs.declared.Tally.{Tally}
 use Rattle.rule.specs.Settings.{Settings}
 use Rattle.rule.specs.Voids.{Meaning}
 use Rattle.rule.specs.Order.{Order}
-use Rattle.node.proofs.Same.{Bytes}
+use Rattle.numbers.specs.Words.{Bytes}
 use Rattle.state.specs.State.{State, meaning}
 use Rattle.state.specs.Sound.{Sound}
 use Rattle.state.specs.VoidLaws.{length-voids}

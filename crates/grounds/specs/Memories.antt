@@ -6,11 +6,10 @@ use mathlib.Core.List.{List}
 use Prim.Native.Nat.{ℕ}
 use native.Mathlib.Omega.{arith}
 use lib.ListN.{length}
-use Rattle.numbers.specs.Words.{word}
+use Rattle.numbers.specs.Words.{Bytes, word}
 use Rattle.tally.specs.declared.Tally.{Tally}
 use Rattle.order.specs.Records.{reading}
 use Rattle.shape.specs.Tree.{size}
-use Rattle.node.proofs.Same.{Bytes}
 use Rattle.state.specs.State.{State}
 use Rattle.state.specs.Sound.{Sound}
 use Rattle.state.specs.Places.{Placed}

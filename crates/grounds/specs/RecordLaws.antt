@@ -16,7 +16,7 @@ use Rattle.rule.specs.Order.{Order, booking, sweep}
 use Rattle.order.specs.Records.{Reading, unread, opening, order, whole, openingOf, bookingOf, compactOf, sweepOf, byMark, reading, usedBy}
 use Rattle.order.specs.Kinds.{Kind, by-mark, kind}
 use Rattle.order.proofs.Alone.{inside}
-use Rattle.node.proofs.Same.{Bytes}
+use Rattle.numbers.specs.Words.{Bytes}
 use Rattle.state.specs.Range.{InRange}
 
 -- ---- parts of a byte string are byte strings

@@ -14,7 +14,7 @@ use Rattle.rule.specs.Answer.{seven}
 use Rattle.tally.specs.Counts.{rows, counts, highest, up, rowOf, raised, sum}
 use Rattle.tally.specs.CountLaws.{raised-is, raised-sum}
 use Rattle.order.specs.Records.{Reading, unread, opening, order, reading}
-use Rattle.node.proofs.Same.{Bytes}
+use Rattle.numbers.specs.Words.{Bytes}
 use Rattle.state.specs.State.{State}
 use Rattle.state.specs.Act.{act}
 use Rattle.state.specs.Sound.{Sound}

@@ -13,7 +13,7 @@ use Rattle.rule.specs.Fit.{hold, free}
 use Rattle.rule.specs.Order.{Order, booking, sweep}
 use Rattle.rule.specs.Answer.{numbersOf}
 use Rattle.order.specs.Records.{opening, reading}
-use Rattle.node.proofs.Same.{Bytes}
+use Rattle.numbers.specs.Words.{Bytes}
 use Rattle.state.specs.History.{Event, books, sweeps}
 use Rattle.calls.specs.declared.open.Opened.{Opened}
 use Rattle.calls.specs.declared.act.Done.{Done}

@@ -15,7 +15,7 @@ use Rattle.rule.specs.Fit.{hold, free}
 use Rattle.rule.specs.Order.{Order, booking, sweep}
 use Rattle.rule.specs.Answer.{Reply, booked, swept, refused, seven, numbersOf}
 use Rattle.order.specs.Records.{Reading, unread, opening, order, reading}
-use Rattle.node.proofs.Same.{Bytes}
+use Rattle.numbers.specs.Words.{Bytes}
 use Rattle.state.specs.State.{State}
 use Rattle.state.specs.Act.{act}
 use Rattle.state.specs.Sound.{Sound}

@@ -11,6 +11,7 @@ use Rattle.tally.specs.declared.Tally.{Tally}
 use Rattle.rule.specs.Fit.{hold}
 use Rattle.rule.specs.Starts.{Start, starts}
 use Rattle.rule.specs.Choice.{NoFit, MinSV}
+use Rattle.rule.specs.Height.{Allowed}
 use Rattle.rule.specs.Key.{startOf, channelOf}
 use Rattle.rule.specs.Order.{Order, booking, sweep}
 use Rattle.rule.specs.Answer.{Reply, booked, swept, refused, seven, numbersOf}
@@ -19,7 +20,7 @@ use Rattle.order.specs.Records.{order, reading}
 use Rattle.shape.specs.Voids.{VoidsIn}
 use Rattle.shape.specs.Visits.{none, some, published}
 use Rattle.shape.specs.SearchLaws.{search-taken, search-nothing}
-use Rattle.node.proofs.Same.{Bytes}
+use Rattle.numbers.specs.Words.{Bytes}
 use Rattle.state.specs.State.{State}
 use Rattle.state.specs.Act.{act}
 use Rattle.state.specs.Sound.{Sound, mostKey}
@@ -117,10 +118,10 @@ module _ (m : List ℕ) (s : State) (W : Sound s) (H : Holds m s) where
       rw (A .answered, A .slice ∙ ap (λ l. flat l ++ rest) (I .answers)) (orders-count s (ordersIn (length ((runOn s t (length out) bytes) .answers)) bytes) rest W (I .range h))
 
   -- "at most t (8 log2 m + 1)": with m voids told, a booking that tries t starts
-  pub told-bound : (x : Told) → Tells x m → (h : ℕ) (xs : List Start) (n w : ℕ) → Counted (s .tree) h xs n → Log2 (x .voids) w → n ≤ length (triedBy (s .tree) h xs) * (8 * w + 1)
-  told-bound x a h xs n w C L =
+  pub told-bound : (x : Told) → Tells x m → (h : ℕ) (xs : List Start) (n : ℕ) → Counted (s .tree) h xs n → (i : ℕ) (b : Allowed (x .voids) i) → n ≤ length (triedBy (s .tree) h xs) * (8 * b .whole + 1)
+  told-bound x a h xs n C i b =
       let e = tells-of m x a s W H in
-      C .bound w (subst (λ (y : Told). Log2 (y .voids) w) e L)
+      C .bound i (record { whole = b .whole; log = subst (λ (y : Told). Log2 (y .voids) (b .whole)) e (b .log); twice = b .twice })
 
   -- "for each start tried the void taken is the leaf where this search ends, and .. where it ends at no leaf that fits, none fits"
   pub search-ends : (r f k e : ℕ) → (published r f (s .tree)) .out ≡ some k e → MinSV (VoidsIn (s .tree)) r f (channelOf k) (startOf k) e

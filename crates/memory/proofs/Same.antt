@@ -12,7 +12,8 @@ use Rattle.shape.specs.PlaceLaws.{same-is, same-other}
 use Rattle.node.specs.declared.Node.{Node}
 use Rattle.node.specs.Layout.{rootSeat, nodeAt, seatOf}
 use Rattle.node.proofs.Reps.{one-tree}
-use Rattle.node.proofs.Same.{Bytes, word-bytes, node-bytes, own-same, stands-same}
+use Rattle.numbers.specs.Words.{Bytes}
+use Rattle.node.proofs.Same.{word-bytes, node-bytes, own-same, stands-same}
 use Rattle.state.specs.State.{State, first, places}
 use Rattle.state.specs.Sound.{among}
 use Rattle.state.specs.Places.{Placed}

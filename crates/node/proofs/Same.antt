@@ -1,5 +1,4 @@
 -- What the contracts leave open: nothing. A tree and a frame fix every byte, so two memories that meet both are one.
--- `Bytes m` is what lent memory always is: a list of bytes.
 use mathlib.Core.Path.{_≡_, sym, ap, _∙_}
 use mathlib.Core.Logic.{_⊎_, inl, inr}
 use mathlib.Core.List.{List}
@@ -8,16 +7,13 @@ use native.Mathlib.Decide.{decLt}
 use native.Mathlib.Omega.{arith}
 use lib.ListN.{getD}
 use lib.Seq.{ext-getD}
-use Rattle.numbers.specs.Words.{lowFirst, word}
+use Rattle.numbers.specs.Words.{Bytes, lowFirst, word}
 use Rattle.shape.specs.Tree.{Tree, leaf, node, uses}
 use Rattle.node.specs.declared.Node.{Node}
 use Rattle.node.specs.Layout.{base, nodeAt, linksOf, seatOf, Kept}
 use Rattle.node.specs.Rep.{Stands}
 use Rattle.shape.specs.PlaceLaws.{same-is}
 use Rattle.node.proofs.Reps.{seen, left-stands, right-stands}
-
-abbrev pub Bytes : List ℕ → Type 0
-Bytes m = (b : ℕ) → getD m b 0 < 256
 
 -- ---- equal numbers have equal bytes
 low-first-bytes : (n : ℕ) (m m′ : List ℕ) (a : ℕ) → Bytes m → Bytes m′ → lowFirst n m a ≡ lowFirst n m′ a → (i : ℕ) → i < n → getD m (a + i) 0 ≡ getD m′ (a + i) 0

@@ -1,8 +1,12 @@
 -- Words of 64 bits in the lent memory: eight bytes, the lowest first.
 -- Only this crate knows where a word's bytes stand; the crates above speak of `word` and `store`.
 use mathlib.Core.List.{List}
-use Prim.Native.Nat.{ℕ, zero, suc, _+_, _*_, _/_, _%_}
+use Prim.Native.Nat.{ℕ, zero, suc, _+_, _*_, _/_, _%_, _<_}
 use lib.ListN.{getD, set}
+
+-- what lent memory is, and every byte string: each element is a byte
+abbrev pub Bytes : List ℕ → Type 0
+Bytes m = (b : ℕ) → getD m b 0 < 256
 
 -- the n bytes from the place a on, the lowest first, as one number
 unfoldable pub lowFirst : ℕ → List ℕ → ℕ → ℕ

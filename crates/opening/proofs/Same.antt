@@ -9,7 +9,7 @@ use native.Mathlib.Omega.{arith}
 use lib.ListN.{length}
 use Rattle.numbers.specs.Case.{case-lt}
 use Rattle.rule.specs.Settings.{Settings, inBounds}
-use Rattle.node.proofs.Same.{Bytes}
+use Rattle.numbers.specs.Words.{Bytes}
 use Rattle.state.specs.Open.{fresh}
 use Rattle.memory.specs.Header.{need}
 use Rattle.memory.specs.Steps.{Link}

@@ -10,7 +10,7 @@ use Rattle.rule.specs.Settings.{Settings}
 use Rattle.rule.specs.Order.{Order}
 use Rattle.rule.specs.Answer.{numbersOf}
 use Rattle.order.specs.Records.{order, reading}
-use Rattle.node.proofs.Same.{Bytes}
+use Rattle.numbers.specs.Words.{Bytes}
 use Rattle.state.specs.History.{Event, floorOf, Stretches}
 use Rattle.calls.specs.declared.act.Done.{Done}
 use Rattle.running.specs.declared.RunDone.{RunDone}

@@ -9,7 +9,7 @@ use Rattle.rule.specs.declared.answer.Answer.{Answer}
 use Rattle.rule.specs.Answer.{numbersOf}
 use Rattle.order.specs.Records.{Reading, unread, opening, order, reading}
 use Rattle.shape.specs.Tree.{size}
-use Rattle.node.proofs.Same.{Bytes}
+use Rattle.numbers.specs.Words.{Bytes}
 use Rattle.state.specs.Open.{fresh}
 use Rattle.memory.proofs.Same.{one-after}
 use Rattle.opening.proofs.Same.{broken, small, fine, answer}

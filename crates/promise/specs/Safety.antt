@@ -7,9 +7,8 @@ use Prim.Native.Nat.{ℕ, _+_, _*_, _≤_, _<_}
 use native.Mathlib.Omega.{arith}
 use lib.ListN.{length, getD, drop, length-drop}
 use lib.Seq.{ext-getD, getD-drop}
-use Rattle.numbers.specs.Words.{word}
+use Rattle.numbers.specs.Words.{Bytes, word}
 use Rattle.tally.specs.declared.Tally.{Tally}
-use Rattle.node.proofs.Same.{Bytes}
 use Rattle.memory.specs.Header.{need}
 use Rattle.memory.specs.Holds.{Past}
 use Rattle.calls.specs.declared.open.Opened.{Opened}

@@ -11,7 +11,7 @@ use Rattle.rule.specs.Order.{Order}
 use Rattle.rule.specs.Answer.{seven, numbersOf}
 use Rattle.tally.specs.Counts.{counts, sum}
 use Rattle.order.specs.Records.{Reading, unread, opening, order, reading}
-use Rattle.node.proofs.Same.{Bytes}
+use Rattle.numbers.specs.Words.{Bytes}
 use Rattle.state.specs.State.{State}
 use Rattle.state.specs.Act.{act}
 use Rattle.state.specs.Sound.{Sound}

@@ -22,7 +22,7 @@ use Rattle.tally.specs.declared.Tally.{Tally}
 use Rattle.order.specs.Records.{order, reading}
 use Rattle.shape.specs.Tree.{Tree}
 use Rattle.shape.specs.Visits.{published}
-use Rattle.node.proofs.Same.{Bytes}
+use Rattle.numbers.specs.Words.{Bytes}
 use Rattle.state.specs.History.{on, books, held, Stretches}
 use Rattle.calls.specs.declared.act.Done.{Done}
 use Rattle.calls.specs.Calls.{Acts}

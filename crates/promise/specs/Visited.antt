@@ -5,10 +5,10 @@ use mathlib.Core.Logic.{inl, inr, _↔_}
 use mathlib.Core.List.{List, [], _∷_}
 use Prim.Native.Nat.{ℕ, _+_, _*_, _≤_}
 use lib.ListN.{length}
-use Rattle.numbers.specs.Powers.{Log2}
 use Rattle.tally.specs.declared.Tally.{Tally}
 use Rattle.rule.specs.Settings.{Settings}
 use Rattle.rule.specs.Fit.{hold}
+use Rattle.rule.specs.Height.{Allowed}
 use Rattle.rule.specs.Starts.{Start, starts}
 use Rattle.rule.specs.Voids.{Voids}
 use Rattle.rule.specs.Codes.{bookingCode}
@@ -50,7 +50,7 @@ pub record Visited (m : List ℕ) (W : Voids) (h : ℕ) (xs : List Start) (voids
   pub tried : Tried W h xs tries
   pub sum : n ≡ visitsOf (link .tree) h tries
   -- "at most t (8 log2 m + 1)"
-  pub bound : (w : ℕ) → Log2 voids w → n ≤ length tries * (8 * w + 1)
+  pub bound : (i : ℕ) (a : Allowed voids i) → n ≤ length tries * (8 * a .whole + 1)
 
 -- (3) "the count of tree nodes visited is exactly the published search's, and at most t(8⌊log2 m⌋+1)", on the link that the memory holds
 pub visits-of-history : {g : Settings} {F : ℕ} {past : List Event} {m m′ : List ℕ} → Since g F past m → (t : Tally) (bytes : List ℕ) (d : Done) (x : Told) (used r l p : ℕ)
@@ -74,5 +74,5 @@ visits-of-history {g} {F} {past} {m} {m′} S t bytes d x used r l p e a q z =
       tries = triedBy (s .tree) h xs;
       tried = tried-as (VoidsIn (s .tree)) (Stretches F (g .channels) past) over h xs (triedBy (s .tree) h xs) (D .tried);
       sum = D .sum;
-      bound = λ w v. told-bound m s (T .sound) (T .holds) x e h xs (d .acted .answer .count) w D v;
+      bound = told-bound m s (T .sound) (T .holds) x e h xs (d .acted .answer .count) D;
     }

@@ -173,20 +173,14 @@ module _ (m : List ℕ) (root r f : ℕ) (ws : List ℕ) (w : Way) (k : (t : Tre
 
     -- what the descent from it comes to, with the way noted on as ws′, n steps down
     module _ (ws′ : List ℕ) (n : ℕ) (d : Descent) (g : (x : Tree) → Stands m seat x → Descended m f x d) (P : Prolonged m (w .mark) (set ws (w .mark) seat) ws′ n (d .seat)) where
-      pub end-within : Within m (getD ws′ n 0)
-      end-within = rw (P .last) (within (g (M .tree) (M .beside .stands) .stands))
+      pub end-within : Within m (d .seat)
+      end-within = within (g (M .tree) (M .beside .stands) .stands)
 
-      pub end-low : (n < length ws′) × (n < longestWay)
-      end-low = (P .long, P .short)
-
-      pub end-read : (y : Node) → y ≡ nodeAt m (getD ws′ n 0) → y ≡ nodeAt m (d .seat)
-      end-read y e = rw (P .last) at e
-
-      pub reaches-mark : (y : Node) → y ≡ nodeAt m (getD ws′ n 0) → Reaches m root n ws′ (y .lo) (y .top)
+      pub reaches-mark : (y : Node) → y ≡ nodeAt m (d .seat) → Reaches m root n ws′ (y .lo) (y .top)
       reaches-mark y e =
           record {
             down = prolonged-down m root (w .mark) (set ws (w .mark) seat) ws′ n (d .seat) (beside-down m root (w .depth) ws seat (w .mark) (T .down) (M .beside .deep) (T .turn) (omega (arith, mark-right)) (mark-within .3)) P;
             sub = leaf (y .lo) (y .top);
-            stands = rw (P .last, end-read y e) (g (M .tree) (M .beside .stands) .stands);
+            stands = rw (P .last, e) (g (M .tree) (M .beside .stands) .stands);
             inside = (refl, refl);
           }

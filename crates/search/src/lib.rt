@@ -272,7 +272,7 @@ pub fn search(mem: &[u8], root: usize, r: u64, f: u64, way: &mut [u16], far: &mu
         way[mark] = seat as u16;
         let mut noted = mark;
         let d = descend(mem, w.below, f, way, mark, &mut noted);
-        let b = node::load(mem, way[noted] as usize);
+        let b = node::load(mem, d.seat);
         return found_at(b, w.visits + d.visits, noted, w);
     }
     found_none(w)

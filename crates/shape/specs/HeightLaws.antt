@@ -7,8 +7,7 @@ use native.Mathlib.Omega.{arith}
 use lib.Pow.{pow-mono}
 use Rattle.numbers.specs.Case.{case-le}
 use Rattle.numbers.specs.Powers.{Log2}
-use Rattle.rule.specs.Height.{Allowed}
-use Rattle.shape.specs.Tree.{Tree, leaf, node, height, size, Balanced}
+use Rattle.shape.specs.Tree.{Tree, leaf, node, height, size, HeightRule, Balanced}
 
 pub leaves-least : (t : Tree) → Balanced t → 2 ^ ((height t + 1) / 2) ≤ size t
 leaves-least (leaf k e) b = omega arith
@@ -33,5 +32,5 @@ height-few t b h = elim (case-le 32 (height t)) [
 ]
 
 -- "with m leaves the height, counted in edges, is at most twice the whole part of log2 m"
-pub height-allowed : (t : Tree) → Balanced t → (h : ℕ) → Allowed (size t) h → height t ≤ h
+pub height-allowed : (t : Tree) → Balanced t → HeightRule t
 height-allowed t b h x = omega (arith, height-log t (x .whole) b (x .log))

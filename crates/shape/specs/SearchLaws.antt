@@ -3,13 +3,12 @@
 use mathlib.Core.Path.{_≡_, refl, sym, _∙_, ap, subst}
 use Prim.Native.Nat.{ℕ, _+_, _*_, _≤_}
 use native.Mathlib.Omega.{arith}
-use Rattle.numbers.specs.Powers.{Log2}
 use Rattle.rule.specs.Fit.{Fits}
 use Rattle.rule.specs.Key.{startOf, channelOf, key-order}
 use Rattle.rule.specs.Choice.{NoFit, MinSV}
-use Rattle.shape.specs.Tree.{Tree, height, size, Balanced, Ord, In}
+use Rattle.rule.specs.Height.{Allowed}
+use Rattle.shape.specs.Tree.{Tree, height, size, HeightRule, Ord, In}
 use Rattle.shape.specs.TreeLaws.{all-in}
-use Rattle.shape.specs.HeightLaws.{height-log}
 use Rattle.shape.specs.Voids.{VoidsIn}
 use Rattle.shape.specs.Visits.{Out, none, some, Result, published}
 use Rattle.shape.specs.FindLaws.{Right, find-right, find-visits, published-is}
@@ -45,5 +44,6 @@ module _ (a b r f : ℕ) (t : Tree) (o : Ord a b t) where
 pub search-visits : (r f : ℕ) (t : Tree) → (published r f t) .visits ≤ 4 * height t + 1
 search-visits r f t = omega (arith, ap (λ (z : Result). z .visits) (published-is f r t), find-visits r f t)
 
-pub search-bound : (r f : ℕ) (t : Tree) (w : ℕ) → Balanced t → Log2 (size t) w → (published r f t) .visits ≤ 8 * w + 1
-search-bound r f t w b g = omega (arith, search-visits r f t, height-log t w b g)
+-- by the height rule: "at most t(8⌊log2 m⌋+1)", of one start
+pub search-bound : (r f : ℕ) (t : Tree) → HeightRule t → (h : ℕ) (a : Allowed (size t) h) → (published r f t) .visits ≤ 8 * a .whole + 1
+search-bound r f t b h a = omega (arith, search-visits r f t, b h a, a .twice)

@@ -6,6 +6,7 @@ use mathlib.Core.List.{List, [], _∷_, _++_}
 use Prim.Native.Nat.{ℕ, _+_, _≤_, _<_, min, max}
 use lib.Dec.{eqb}
 use Rattle.numbers.specs.Case.{pick}
+use Rattle.rule.specs.Height.{Allowed}
 
 pub data Tree : Type 0 where
   leaf : (key end : ℕ) → Tree
@@ -42,6 +43,10 @@ low (leaf k e) = e
 low (node p l r) = min (low l) (low r)
 
 -- ---- rules
+-- 01's height rule: no higher than is allowed with so many leaves
+abbrev pub HeightRule : Tree → Type 0
+HeightRule t = (h : ℕ) → Allowed (size t) h → height t ≤ h
+
 -- the team's balancing rule: the heights of two children differ by at most 1
 abbrev pub Balanced : Tree → Type 0
 Balanced (leaf k e) = Unit {0}

@@ -4,11 +4,11 @@ use mathlib.Core.Logic.{_⊎_}
 use mathlib.Core.List.{List, [], _∷_}
 use Prim.Native.Nat.{ℕ, _+_, _*_, _≤_}
 use lib.ListN.{length}
-use Rattle.numbers.specs.Powers.{Log2}
 use Rattle.rule.specs.Fit.{Fits, free}
 use Rattle.rule.specs.Starts.{Start}
 use Rattle.rule.specs.Voids.{Voids}
 use Rattle.rule.specs.Choice.{NoFit}
+use Rattle.rule.specs.Height.{Allowed}
 use Rattle.shape.specs.Tree.{Tree, size}
 use Rattle.shape.specs.Voids.{VoidsIn}
 use Rattle.shape.specs.Visits.{Out, none, some, published}
@@ -47,4 +47,4 @@ triedBy t h (x ∷ xs) = upTo x ((published (x .moment) (free (x .moment) h) t) 
 pub record Counted (t : Tree) (h : ℕ) (xs : List Start) (n : ℕ) : Type 0 where
   pub tried : Tried (VoidsIn t) h xs (triedBy t h xs)
   pub sum : n ≡ visitsOf t h (triedBy t h xs)
-  pub bound : (w : ℕ) → Log2 (size t) w → n ≤ length (triedBy t h xs) * (8 * w + 1)
+  pub bound : (i : ℕ) (a : Allowed (size t) i) → n ≤ length (triedBy t h xs) * (8 * a .whole + 1)

@@ -13,7 +13,7 @@ use Rattle.rule.specs.Choice.{NoFit}
 use Rattle.rule.specs.Key.{startOf, channelOf}
 use Rattle.rule.specs.Order.{booking, sweep}
 use Rattle.rule.specs.Codes.{bookingCode, sweepCode}
-use Rattle.shape.specs.Tree.{Tree, Balanced, Ord}
+use Rattle.shape.specs.Tree.{Tree, HeightRule, Ord}
 use Rattle.shape.specs.Visits.{Out, none, some, published}
 use Rattle.shape.specs.SearchLaws.{search-taken, search-nothing, search-bound}
 use Rattle.state.specs.State.{State}
@@ -39,7 +39,7 @@ tried-one W h (x ∷ xs) (y ∷ ys) (z ∷ zs) a b = go (a .1) (b .1) (λ c d. t
     go (inr c) (inl d) more = absurd (c .0 (d .0 .channel) (d .0 .start) (d .0 .end) (d .0 .void) (d .0 .fits))
     go (inr c) (inr d) more = cc (a .0, b .0, more (c .1) (d .1))
 
-module _ (a b : ℕ) (t : Tree) (o : Ord a b t) (B : Balanced t) (h : ℕ) where
+module _ (a b : ℕ) (t : Tree) (o : Ord a b t) (B : HeightRule t) (h : ℕ) where
   pub seek-counted : (xs : List Start) → Counted t h xs ((seek t h xs) .count)
   seek-counted [] = record { tried = tt; sum = refl; bound = λ w q. omega arith }
   seek-counted (x ∷ xs) = go (seek-counted xs) ((published r f t) .out) refl
@@ -54,21 +54,21 @@ module _ (a b : ℕ) (t : Tree) (o : Ord a b t) (B : Balanced t) (h : ℕ) where
       go d none q = record {
         tried = rw q (refl, inr (search-nothing a b r f t o q, d .tried));
         sum = rw q (omega (arith, d .sum));
-        bound = λ w z. rw q (omega (arith, search-bound r f t w B z, d .bound w z, suc-mul (length (triedBy t h xs)) (8 * w + 1)));
+        bound = λ i z. rw q (omega (arith, search-bound r f t B i z, d .bound i z, suc-mul (length (triedBy t h xs)) (8 * z .whole + 1)));
       }
       go d (some k e) q =
           let m = search-taken a b r f t o k e q in
           record {
             tried = rw q (refl, inl (record { channel = channelOf k; start = startOf k; end = e; void = m .void; fits = m .fits }, refl));
             sum = rw q (omega arith);
-            bound = λ w z. rw q (omega (arith, search-bound r f t w B z));
+            bound = λ i z. rw q (omega (arith, search-bound r f t B i z));
           }
 
 module _ (s : State) where
   -- a booking that is refused by none of the codes 3 to 6
   pub act-count : Sound s → (r l m : ℕ) → bookingCode (s .settings) (s .floor) r l m ≡ 0
       → let h = hold (s .settings) l in Counted (s .tree) h (starts (s .settings .delays) r h m) ((act s (booking r l m)) .count)
-  act-count W r l m q = rw q (seek-counted 0 mostKey (s .tree) (W .ordered) (W .balanced) (hold (s .settings) l) (starts (s .settings .delays) r (hold (s .settings) l) m))
+  act-count W r l m q = rw q (seek-counted 0 mostKey (s .tree) (W .ordered) (W .high) (hold (s .settings) l) (starts (s .settings .delays) r (hold (s .settings) l) m))
 
   pub refused-count : (r l m x : ℕ) → bookingCode (s .settings) (s .floor) r l m ≡ suc x → (act s (booking r l m)) .count ≡ 0
   refused-count r l m x q = rw q

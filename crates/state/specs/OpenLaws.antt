@@ -13,8 +13,9 @@ use Rattle.rule.specs.SettingsLaws.{in-bounds}
 use Rattle.rule.specs.Kept.{least-most}
 use Rattle.rule.specs.Key.{keyOf, startOf, start-of-key}
 use Rattle.rule.specs.Voids.{Has}
-use Rattle.shape.specs.Tree.{Tree, size, All, same}
+use Rattle.shape.specs.Tree.{Tree, leaf, size, All, same}
 use Rattle.shape.specs.TreeLaws.{all-in}
+use Rattle.shape.specs.HeightLaws.{height-allowed}
 use Rattle.shape.specs.PlaceLaws.{same-self, same-other}
 use Rattle.state.specs.State.{State, add, places, meaning}
 use Rattle.state.specs.Open.{upFrom, with-channels, widen, single, widened, fewer, fresh}
@@ -73,6 +74,7 @@ module _ (g : Settings) (floor : ℕ) (q : inBounds g ≡ true) (h : floor ≤ l
     bounds = bounds-fewer g q 1 (omega arith) (in-bounds g q .channels .0);
     floor = h;
     ordered = omega arith;
+    high = height-allowed (leaf (keyOf floor 0) openEnd) tt;
     balanced = tt;
     lawful = record { channel = omega arith; some = omega arith; most = omega arith; stay = stays-least floor openEnd .1 (omega (arith, least-most floor)) };
     apart = λ k e k′ e′ i j c x. absurd (omega arith);

@@ -10,7 +10,7 @@ use Rattle.rule.specs.Moments.{openEnd, lastMoment}
 use Rattle.rule.specs.Settings.{Settings, inBounds}
 use Rattle.rule.specs.Kept.{stays}
 use Rattle.rule.specs.Key.{startOf, channelOf, perTick}
-use Rattle.shape.specs.Tree.{Tree, size, Balanced, Ord, In, All, same, uses}
+use Rattle.shape.specs.Tree.{Tree, size, HeightRule, Balanced, Ord, In, All, same, uses}
 use Rattle.state.specs.State.{State, places}
 
 -- "each void on a channel of the link with s < e and e at most the open end", "ends at or after the floor"
@@ -47,8 +47,9 @@ pub record Sound (s : State) : Type 0 where
   -- "settings in bounds"
   pub bounds : inBounds (s .settings) ≡ true
   pub floor : s .floor ≤ lastMoment
-  -- "ordered leaves", "the team's balancing rule"
+  -- "ordered leaves", "the height rule and the team's balancing rule"
   pub ordered : Ord 0 mostKey (s .tree)
+  pub high : HeightRule (s .tree)
   pub balanced : Balanced (s .tree)
   pub lawful : All (λ k e. Lawful (s .settings .channels) (s .floor) k e) (s .tree)
   pub apart : Apart (s .tree)

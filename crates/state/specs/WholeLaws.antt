@@ -12,6 +12,7 @@ use Rattle.rule.specs.Kept.{least, least-most}
 use Rattle.rule.specs.Key.{startOf, channelOf}
 use Rattle.shape.specs.Tree.{Tree, leaf, node, lo, Ord, In}
 use Rattle.shape.specs.TreeLaws.{all-map, all-in, all-of, in-ord, same-key}
+use Rattle.shape.specs.HeightLaws.{height-allowed}
 use Rattle.state.specs.State.{State}
 use Rattle.state.specs.Sound.{Lawful, Apart, Sound, mostKey}
 use Rattle.state.specs.Cover.{cover}
@@ -127,6 +128,7 @@ module _ (F₀ F : ℕ) (g : Settings) (H : ℕ → ℕ → ℕ) (s : State) (L 
     bounds = rw (L .settings) b;
     floor = L .floor;
     ordered = L .kept .ordered;
+    high = height-allowed (s .tree) (L .kept .balanced);
     balanced = L .kept .balanced;
     lawful = rw (L .settings) (all-map (λ k e v. record { channel = v .channel; some = v .some; most = v .most; stay = stays-least (s .floor) e .1 (v .stay) }) (s .tree) (L .kept .edges));
     apart = lives-apart;

@@ -12,6 +12,7 @@ use Rattle.rule.specs.Kept.{least-most}
 use Rattle.rule.specs.Key.{keyOf, startOf, channelOf, start-of-key, channel-of-key}
 use Rattle.shape.specs.Tree.{size, In, All}
 use Rattle.shape.specs.TreeLaws.{all-map, all-in, all-of}
+use Rattle.shape.specs.HeightLaws.{height-allowed}
 use Rattle.shape.specs.InsertLaws.{Inserted, insert-ok, inserted-size}
 use Rattle.state.specs.State.{State, first, add}
 use Rattle.state.specs.Open.{with-channels, widen}
@@ -88,6 +89,7 @@ module _ (s : State) (W : Sound s) (q : inBounds (with-channels (s .settings) (s
     bounds = q;
     floor = W .floor;
     ordered = widen-inserted .ord;
+    high = height-allowed ((widen s) .tree) (widen-inserted .even);
     balanced = widen-inserted .even;
     lawful = widen-inserted .all (λ k e. Lawful (c + 1) (s .floor) k e)
         (record {

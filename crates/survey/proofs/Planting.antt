@@ -11,10 +11,9 @@ use Rattle.numbers.specs.Case.{case-le}
 use mathlib.Core.Logic.{inl, inr}
 use Rattle.rule.specs.Moments.{openEnd}
 use Rattle.rule.specs.Key.{channelOf}
-use Rattle.rule.specs.Height.{Allowed}
+use Rattle.rule.specs.Height.{Allowed, allowed-one}
 use Rattle.shape.specs.Tree.{Tree, size}
 use Rattle.shape.specs.TreeLaws.{widen}
-use Rattle.shape.specs.HeightLaws.{height-allowed}
 use Rattle.node.specs.Layout.{rootSeat}
 use Rattle.node.proofs.Reps.{one-tree}
 use Rattle.state.specs.Sound.{mostKey}
@@ -38,14 +37,20 @@ allowed-small k h a g = elim (case-le (a .whole) 12) [
   | inr y ↦ let u : 13 ≤ a .whole = omega arith in absurd (omega (arith, pow-mono u, a .log .low))
 ]
 
-module _ (m : List ℕ) (r c f k h : ℕ) (e0 : r ≡ word m 0) (e1 : c ≡ word m 1) (e4 : f ≡ word m 4) (e6 : k ≡ word m 6)
-    (some : 1 ≤ k) (high : Allowed k h) (x y : List ℕ) (s : Progress) (n : c ≤ length x) (z : (d : ℕ) → getD x d 0 ≡ 0)
-    (v : Surveyed m (r + 1) c f x y rootSeat (h + 1) 0 (2 * k - 1) s) where
-  taken : (t : Tree) → Treed m t → Taken m (r + 1) c f x rootSeat (h + 1) 0 (2 * k - 1) t
+-- what the limit is for: a tree below it keeps the height rule, and it refuses none that does
+pub record Limits (k h limit : ℕ) : Type 0 where
+  pub allowed : Allowed k h
+  pub keeps : limit ≤ h + 1
+  pub takes : h < limit
+
+module _ (m : List ℕ) (r c f k h limit : ℕ) (e0 : r ≡ word m 0) (e1 : c ≡ word m 1) (e4 : f ≡ word m 4) (e6 : k ≡ word m 6)
+    (some : 1 ≤ k) (high : Limits k h limit) (x y : List ℕ) (s : Progress) (n : c ≤ length x) (z : (d : ℕ) → getD x d 0 ≡ 0)
+    (v : Surveyed m (r + 1) c f x y rootSeat limit 0 (2 * k - 1) s) where
+  taken : (t : Tree) → Treed m t → Taken m (r + 1) c f x rootSeat limit 0 (2 * k - 1) t
   taken t w = record {
     stands = w .stands;
     inside = rw e0 (w .inside);
-    low = omega (arith, height-allowed t (w .balanced) h (rw (w .many, ← e6) high));
+    low = omega (arith, w .high h (rw (w .many, ← e6) (high .allowed)), high .takes);
     few = omega (arith, w .many);
     good = rw (e1, e4) (apart-good (word m 1) (word m 4) 0 mostKey x t (omega arith) (w .ordered) (w .balanced) (w .lawful) (w .apart) (λ i e j. omega (arith, z (channelOf i))));
   }
@@ -73,6 +78,7 @@ module _ (m : List ℕ) (r c f k h : ℕ) (e0 : r ≡ word m 0) (e1 : c ≡ word
     planted l o =
         let d = v .yes found in
         let g = d .1 .good in
+        let many : size (d .0) ≡ k = omega (arith, d .2 .left) in
         let all = good-lawful c f 0 x (d .0) g in (
           d .0,
           record {
@@ -80,6 +86,7 @@ module _ (m : List ℕ) (r c f k h : ℕ) (e0 : r ≡ word m 0) (e1 : c ≡ word
             many = omega (arith, d .2 .left);
             inside = rw (← e0) (d .1 .inside);
             ordered = widen 0 (next (d .0)) 0 mostKey (d .0) (omega arith) (good-most c f 0 x (d .0) g) (good-ord c f 0 x (d .0) g);
+            high = λ j a. omega (arith, d .1 .low, high .keeps, allowed-one k h j (high .allowed) (rw many at a));
             balanced = good-balanced c f 0 x (d .0) g;
             lawful = rw (← e1, ← e4) all;
             apart = good-apart c f 0 x (d .0) n g;

@@ -4,7 +4,7 @@ use mathlib.Core.Path.{_≡_}
 use mathlib.Core.List.{List}
 use Prim.Native.Nat.{ℕ, _≤_, _<_}
 use Rattle.numbers.specs.Words.{word}
-use Rattle.shape.specs.Tree.{Tree, size, Balanced, Ord, All, uses}
+use Rattle.shape.specs.Tree.{Tree, size, HeightRule, Balanced, Ord, All, uses}
 use Rattle.node.specs.Layout.{rootSeat}
 use Rattle.node.specs.Rep.{Stands}
 use Rattle.state.specs.State.{places}
@@ -16,6 +16,7 @@ pub record Treed (m : List ℕ) (t : Tree) : Type 0 where
   pub many : size t ≡ word m 6
   pub inside : (z : ℕ) → 1 ≤ uses z t → z < places (word m 0)
   pub ordered : Ord 0 mostKey t
+  pub high : HeightRule t
   pub balanced : Balanced t
   pub lawful : All (λ k e. Lawful (word m 1) (word m 4) k e) t
   pub apart : Apart t

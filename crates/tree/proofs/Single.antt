@@ -9,7 +9,8 @@ use native.Mathlib.Omega.{arith}
 use Rattle.shape.specs.Tree.{Tree, height, same, uses}
 use Rattle.shape.specs.PlaceLaws.{same-other}
 use Rattle.shape.specs.ChangeLaws.{weight-insert, weight-set}
-use Rattle.node.proofs.Same.{Bytes, determined}
+use Rattle.numbers.specs.Words.{Bytes}
+use Rattle.node.proofs.Same.{determined}
 use Rattle.rising.specs.Changes.{adding, ending, Begun, Becomes}
 
 -- a seat that may have been written is t, or at a place of the tree after

@@ -88,6 +88,7 @@ module _ (m : List ℕ) (s : State) (S : Sound s) (H : Holds m s) where
     many = sym word-kept;
     inside = λ z h. rw word-room (below-in z _ (omega (arith, S .all z)));
     ordered = S .ordered;
+    high = S .high;
     balanced = S .balanced;
     lawful = rw (word-channels, word-floor) (S .lawful);
     apart = S .apart;
@@ -203,6 +204,7 @@ module _ (m : List ℕ) (t : Tree) (A : Settled m) (B : Treed m t) (C : Spared m
     bounds = bounds-in (read m t .settings) rows;
     floor = A .bounded .most-floor;
     ordered = B .ordered;
+    high = B .high;
     balanced = B .balanced;
     lawful = B .lawful;
     apart = B .apart;
