@@ -15,7 +15,7 @@ use Rattle.rule.specs.Fit.{hold, free}
 use Rattle.rule.specs.Starts.{Start, starts}
 use Rattle.rule.specs.Voids.{Void, Voids, Has}
 use Rattle.rule.specs.Kept.{stays, dropped}
-use Rattle.rule.specs.Key.{startOf, channelOf}
+use Rattle.rule.specs.Key.{keyOf, startOf, channelOf, key-is}
 use Rattle.rule.specs.Order.{Order, booking, sweep}
 use Rattle.rule.specs.Answer.{booked, refused, seven}
 use Rattle.rule.specs.Codes.{bookingCode, sweepCode, tooMany, chosenReply}
@@ -112,12 +112,13 @@ module _ (a b : ℕ) (T : Tree) (o : Ord a b T) (B : HeightRule T) (W : Voids) (
           → let y = seek T (hold g l) (x ∷ xs) in Tries W T g floor (size T) l (x ∷ xs) t n (seven (chosenReply g floor (size T) l (choice (y .out))) (n + y .count))
       go none q further =
           let e : n + (v + (seek T (hold g l) xs) .count) ≡ n + v + (seek T (hold g l) xs) .count = omega arith in
-          rw (q, e) (inl (no-fit-as (VoidsIn T) W f r k (search-nothing a b r k T o q), further (bounded r k t n h)))
+          rw (q, e) (inl (no-fit-as (VoidsIn T) W f r k (search-nothing a b r k T o q), refl, further (bounded r k t n h)))
       go (some j e) q further = rw q (inr (
         channelOf j,
         startOf j,
         e,
         min-sv-as (VoidsIn T) W f r k (channelOf j) (startOf j) e (search-taken a b r k T o j e q),
+        ap (λ i. some i e) (key-is j),
         bounded r k t n h,
         taken-seven (tooMany g floor (size T) r k (startOf j) e) (channelOf j) (x .line) r (r + l) (n + v),
       ))
@@ -139,21 +140,21 @@ module _ (s : State) (S : Sound s) (W : Voids) (f : (c b e : ℕ) → Has (voids
   pub many : Many (size (s .tree)) W
   many = subst (λ n. Many n W) (length-voids (s .tree)) (many-listed (voidsOf (s .tree)) W (once-voids 0 mostKey (s .tree) (S .ordered)) f)
 
-  booking-answered : (r l p : ℕ) → let y = act s (booking r l p) in Answered (s .settings) (s .floor) W (booking r l p) (seven (y .reply) (y .count))
+  booking-answered : (r l p : ℕ) → let y = act s (booking r l p) in Answered (s .settings) (s .floor) W (s .tree) (booking r l p) (seven (y .reply) (y .count))
   booking-answered r l p = go (bookingCode (s .settings) (s .floor) r l p)
     where
       xs : List Start
       xs = starts (s .settings .delays) r (hold (s .settings) l) p
 
-      go : (x : ℕ) → let y = bookAs x s r l p in let a = seven (y .reply) (y .count) in Unless x (Booked W (s .settings) (s .floor) r l p a) a
+      go : (x : ℕ) → let y = bookAs x s r l p in let a = seven (y .reply) (y .count) in Unless x (Booked W (s .tree) (s .settings) (s .floor) r l p a) a
       go zero =
           let y = bookAs 0 s r l p in
           let t = tries 0 mostKey (s .tree) (S .ordered) (S .high) W inside (s .settings) (s .floor) l xs 0 0 (λ w q. omega arith) in
           let e : 0 + y .count ≡ y .count = omega arith in
-          (size (s .tree), s .tree, many, leaves, subst (λ n. Tries W (s .tree) (s .settings) (s .floor) (size (s .tree)) l xs 0 0 (seven (y .reply) n)) e t)
+          (size (s .tree), many, leaves, subst (λ n. Tries W (s .tree) (s .settings) (s .floor) (size (s .tree)) l xs 0 0 (seven (y .reply) n)) e t)
       go (suc x) = refl
 
-  sweep-answered : (moment : ℕ) → let y = act s (sweep moment) in Answered (s .settings) (s .floor) W (sweep moment) (seven (y .reply) (y .count))
+  sweep-answered : (moment : ℕ) → let y = act s (sweep moment) in Answered (s .settings) (s .floor) W (s .tree) (sweep moment) (seven (y .reply) (y .count))
   sweep-answered moment = go (sweepCode (s .settings) (s .floor) moment)
     where
       G : Gone moment (voidsOf (s .tree)) (gone moment (voidsOf (s .tree))) (dropped moment (voidsOf (s .tree)))
@@ -172,17 +173,17 @@ module _ (s : State) (S : Sound s) (W : Voids) (f : (c b e : ℕ) → Has (voids
       )
       go (suc x) = refl
 
-  pub sound-answered : (o : Order) → let y = act s o in Answered (s .settings) (s .floor) W o (seven (y .reply) (y .count))
+  pub sound-answered : (o : Order) → let y = act s o in Answered (s .settings) (s .floor) W (s .tree) o (seven (y .reply) (y .count))
   sound-answered (booking r l p) = booking-answered r l p
   sound-answered (sweep moment) = sweep-answered moment
 
 -- ---- so does a link that orders have made of a fresh one, over the gaps of its history
 pub answered : (g : Settings) (F : ℕ) → inBounds g ≡ true → F ≤ lastMoment → (x : Life) (o : Order) → Reached g F x → InRange o
-    → let y = act (x .state) o in Answered g (floorOf F (x .past)) (Stretches F (g .channels) (x .past)) o (seven (y .reply) (y .count))
+    → let y = act (x .state) o in Answered g (floorOf F (x .past)) (Stretches F (g .channels) (x .past)) (x .state .tree) o (seven (y .reply) (y .count))
 answered g F q h x o R a =
     let s = x .state in
     let y = act s o in
     let W = Stretches F (g .channels) (x .past) in
     let M = reached-means g F q h x R in
     let A = sound-answered s (reached-sound g F q h x R) W (M .gaps) o in
-    subst (λ k. Answered g k W o (seven (y .reply) (y .count))) (M .floor) (subst (λ (k : Settings). Answered k (s .floor) W o (seven (y .reply) (y .count))) (M .settings) A)
+    subst (λ k. Answered g k W (s .tree) o (seven (y .reply) (y .count))) (M .floor) (subst (λ (k : Settings). Answered k (s .floor) W (s .tree) o (seven (y .reply) (y .count))) (M .settings) A)

@@ -1,26 +1,26 @@
--- What Answered leaves open: nothing but the count, which is the tree's (and on one tree one count, Standins' `makes-up-count`).
+-- What Answered leaves open: nothing. Over one set of voids and one tree there is one answer, the count too.
 -- 01, How much a promise has to say: "that statement leaves a single possible answer".
-use mathlib.Core.Path.{_≡_, refl, sym, ap, subst}
+use mathlib.Core.Path.{_≡_, refl, sym, _∙_, ap, subst}
 use mathlib.Core.Logic.{inl, inr, _↔_}
-use mathlib.Core.Bool.{Bool, true, false}
+use mathlib.Core.Bool.{false}
 use mathlib.Core.List.{List, [], _∷_}
 use Prim.Native.Nat.{ℕ, zero, suc, _+_}
 use native.Mathlib.Omega.{arith}
-use lib.ListN.{length, take, drop}
-use Rattle.numbers.specs.Case.{pick, case-eq}
+use lib.ListN.{length}
+use Rattle.numbers.specs.Case.{case-eq}
 use Rattle.rule.specs.Settings.{Settings}
 use Rattle.rule.specs.Fit.{hold, free}
 use Rattle.rule.specs.Starts.{Start, starts}
 use Rattle.rule.specs.Voids.{Void, Voids, Has}
 use Rattle.rule.specs.Kept.{stays}
 use Rattle.rule.specs.Order.{Order, booking, sweep}
-use Rattle.rule.specs.Codes.{bookingCode, sweepCode, tooMany}
+use Rattle.rule.specs.Codes.{bookingCode, sweepCode}
 use Rattle.rule.specs.Single.{OneEnd, min-sv-one}
 use Rattle.shape.specs.Tree.{Tree}
 use Rattle.shape.specs.Visits.{published}
 use Rattle.state.specs.History.{Event, held, Stretches}
 use Rattle.state.specs.LongestLaws.{longest-same}
-use Rattle.grounds.specs.Answered.{Many, refusal, Tries, Booked, Unless, Answered}
+use Rattle.grounds.specs.Answered.{Many, Tries, Booked, Unless, Answered}
 use Rattle.grounds.specs.Right.{Once}
 use Rattle.grounds.specs.OnceLaws.{once-most}
 
@@ -63,44 +63,34 @@ many-one W m n a b =
       once-most (B .voids) (A .voids) (B .once) (λ c s e i. A .has c s e .1 (B .has c s e .0 i)),
     )
 
--- ---- the same seven numbers but for the count
-abbrev pub Alike : List ℕ → List ℕ → Type 0
-Alike a b = (take 5 a ≡ take 5 b) × (drop 6 a ≡ drop 6 b)
+-- ---- one answer
+module _ (W : Voids) (d : OneEnd W) (T : Tree) (g : Settings) (floor : ℕ) where
+  tries-one : (m l : ℕ) (xs : List Start) (t n : ℕ) (a b : List ℕ) → Tries W T g floor m l xs t n a → Tries W T g floor m l xs t n b → a ≡ b
+  tries-one m l [] t n a b u v = u .0 ∙ sym (v .0)
+  tries-one m l (x ∷ xs) t n a b (inl u) (inl v) = tries-one m l xs (suc t) (n + (published (x .moment) (free (x .moment) (hold g l)) T) .visits) a b (u .2) (v .2)
+  tries-one m l (x ∷ xs) t n a b (inl u) (inr (c, s, e, M, z, B, q)) = absurd (u .0 c s e (M .void) (M .fits))
+  tries-one m l (x ∷ xs) t n a b (inr (c, s, e, M, z, B, q)) (inl v) = absurd (v .0 c s e (M .void) (M .fits))
+  tries-one m l (x ∷ xs) t n a b (inr (c, s, e, M, z, B, q)) (inr (c′, s′, e′, M′, z′, B′, q′)) =
+      let o = min-sv-one W d (x .moment) (free (x .moment) (hold g l)) c s e c′ s′ e′ M M′ in
+      q ∙ (rw (o .0, o .1, o .2) (sym q′))
 
-picked-alike : (x : Bool) (c i r f k j : ℕ) → Alike (pick x (refusal 8 k) (0 ∷ c ∷ i ∷ r ∷ f ∷ k ∷ 0 ∷ [])) (pick x (refusal 8 j) (0 ∷ c ∷ i ∷ r ∷ f ∷ j ∷ 0 ∷ []))
-picked-alike true c i r f k j = (refl, refl)
-picked-alike false c i r f k j = (refl, refl)
-
-module _ (W : Voids) (d : OneEnd W) (g : Settings) (floor : ℕ) where
-  tries-one : (T U : Tree) (m l : ℕ) (xs : List Start) (t n k : ℕ) (a b : List ℕ) → Tries W T g floor m l xs t n a → Tries W U g floor m l xs t k b → Alike a b
-  tries-one T U m l [] t n k a b u v = rw (u .0, v .0) (refl, refl)
-  tries-one T U m l (x ∷ xs) t n k a b (inl u) (inl v) =
-      let f = free (x .moment) (hold g l) in
-      tries-one T U m l xs (suc t) (n + (published (x .moment) f T) .visits) (k + (published (x .moment) f U) .visits) a b (u .1) (v .1)
-  tries-one T U m l (x ∷ xs) t n k a b (inl u) (inr (c, s, e, M, B, q)) = absurd (u .0 c s e (M .void) (M .fits))
-  tries-one T U m l (x ∷ xs) t n k a b (inr (c, s, e, M, B, q)) (inl v) = absurd (v .0 c s e (M .void) (M .fits))
-  tries-one T U m l (x ∷ xs) t n k a b (inr (c, s, e, M, B, q)) (inr (c′, s′, e′, M′, B′, q′)) =
-      let f = free (x .moment) (hold g l) in
-      let o = min-sv-one W d (x .moment) f c s e c′ s′ e′ M M′ in
-      rw (q, q′, ← o .0, ← o .1, ← o .2) (picked-alike (tooMany g floor m (x .moment) f s e) c (x .line) (x .moment) (x .moment + l) (n + (published (x .moment) f T) .visits) (k + (published (x .moment) f U) .visits))
-
-  -- any two answers are the same but for the count
-  pub answered-one : (o : Order) (a b : List ℕ) → Answered g floor W o a → Answered g floor W o b → Alike a b
+  -- any two answers are the same, the count too
+  pub answered-one : (o : Order) (a b : List ℕ) → Answered g floor W T o a → Answered g floor W T o b → a ≡ b
   answered-one (booking r l p) a b = go (bookingCode g floor r l p)
     where
-      go : (x : ℕ) → Unless x (Booked W g floor r l p a) a → Unless x (Booked W g floor r l p b) b → Alike a b
-      go zero (m, T, M, L, u) (n, U, N, K, v) =
+      go : (x : ℕ) → Unless x (Booked W T g floor r l p a) a → Unless x (Booked W T g floor r l p b) b → a ≡ b
+      go zero (m, M, L, u) (n, N, K, v) =
           let xs = starts (g .delays) r (hold g l) p in
-          tries-one T U m l xs 0 0 0 a b u (subst (λ i. Tries W U g floor i l xs 0 0 b) (many-one W n m N M) v)
-      go (suc x) u v = rw (u, v) (refl, refl)
+          tries-one m l xs 0 0 a b u (subst (λ i. Tries W T g floor i l xs 0 0 b) (many-one W n m N M) v)
+      go (suc x) u v = u ∙ sym v
   answered-one (sweep moment) a b = go (sweepCode g floor moment)
     where
       Drops : List ℕ → Type 0
       Drops a = (d : ℕ) × Many d (λ c s e. W c s e × (stays moment e ≡ false)) × (a ≡ 0 ∷ 0 ∷ 0 ∷ 0 ∷ 0 ∷ 0 ∷ d ∷ [])
 
-      go : (x : ℕ) → Unless x (Drops a) a → Unless x (Drops b) b → Alike a b
-      go zero (n, M, u) (k, N, v) = let e = many-one _ n k M N in rw (u, v, e) (refl, refl)
-      go (suc x) u v = rw (u, v) (refl, refl)
+      go : (x : ℕ) → Unless x (Drops a) a → Unless x (Drops b) b → a ≡ b
+      go zero (n, M, u) (k, N, v) = let e = many-one _ n k M N in u ∙ (rw e (sym v))
+      go (suc x) u v = u ∙ sym v
 
 -- the gaps of a history are such a set: a channel has at most one from a moment on
 pub stretches-one : (F C : ℕ) (past : List Event) → OneEnd (Stretches F C past)

@@ -4,15 +4,14 @@
 use mathlib.Core.Path.{_≡_, refl, sym, _∙_, ap, subst}
 use mathlib.Core.Logic.{_⊎_, inl, inr, _↔_, _≢_}
 use mathlib.Core.List.{List, [], _∷_, _++_}
-use Prim.Native.Nat.{ℕ, _*_, _≤_}
+use Prim.Native.Nat.{ℕ, _*_, _-_, _≤_}
 use native.Mathlib.Omega.{arith}
 use lib.ListN.{length, getD, drop, length-append, length-drop}
 use lib.Seq.{drop-append-seam}
-use Rattle.numbers.specs.Case.{case-eq}
 use Rattle.numbers.specs.Words.{Bytes, word}
 use Rattle.tally.specs.declared.Tally.{Tally}
 use Rattle.rule.specs.Answer.{Reply, booked, swept, refused, seven, numbersOf}
-use Rattle.tally.specs.Counts.{rowOf, rowAt, raised}
+use Rattle.tally.specs.Counts.{rowIf, rowAt, raised}
 use Rattle.rule.specs.Order.{Order, booking, sweep}
 use Rattle.order.specs.Records.{Reading, unread, opening, order, reading}
 use Rattle.state.specs.State.{State}
@@ -34,10 +33,11 @@ use Rattle.running.specs.Run.{runOn, flat}
 use Rattle.running.specs.Runs.{Runs}
 use Rattle.calls.specs.Calls.{Acts, Tells}
 use Rattle.running.proofs.Within.{run-within}
+use Rattle.grounds.specs.Ends.{bytesOf}
 use Rattle.grounds.specs.Orders.{ordersIn, sevens, after}
 use Rattle.grounds.specs.RecordLaws.{Fair, reading-fair}
-use Rattle.grounds.specs.ReplyLaws.{Apt, act-apt}
-use Rattle.grounds.specs.RunLaws.{run-is-orders, run-ends, step-settings, step-refused, run-settings}
+use Rattle.grounds.specs.ReplyLaws.{Apt, act-apt, row-at}
+use Rattle.grounds.specs.RunLaws.{run-is-orders, run-ends, end-codes, step-settings, step-refused, run-settings}
 use Rattle.grounds.specs.Sevens.{AllRefused, flat-length, all-refused-same}
 use Rattle.grounds.specs.Memories.{whole-run, after-same, room-is}
 
@@ -69,11 +69,6 @@ open-door room bytes m m′ o h = go (reading bytes) (reading-fair bytes)
             record { code = rw (u .0) (inl refl); refused = λ k. absurd (k (rw (u .0))); past = rw g at (u .1 .past) }
 
 -- ---- act
--- "one count for bookings, one for sweeps": the row of an order that is accepted; that of code x is x - 1 (`rowAt`)
-abbrev pub rowIf : Order → ℕ
-rowIf (booking r l p) = 0
-rowIf (sweep moment) = 1
-
 pub record ActDoor (t : Tally) (bytes : List ℕ) (d : Done) (m m′ : List ℕ) : Type 0 where
   pub code : (d .acted .answer .code ≡ 0) ⊎ ((2 ≤ d .acted .answer .code) × (d .acted .answer .code ≤ 11))
   -- "2: the lent memory is not a whole link"
@@ -97,15 +92,6 @@ record StepDoor (t : Tally) (bytes : List ℕ) (x : Stepped) : Type 0 where
   used : x .used ≤ length bytes
   unread : getD (x .numbers) 0 0 ≡ 11 → (x .used ≡ 0) × (x .tally ≡ t)
   tally : getD (x .numbers) 0 0 ≢ 11 → (n : ℕ) × (o : Order) × (reading bytes ≡ order n o) × (x .used ≡ n) × (x .tally ≡ raised t (rowAt (getD (x .numbers) 0 0) (rowIf o)))
-
--- the row that a reply raises, by its code
-row-at : (o : Order) (y : Reply) (n : ℕ) → Apt o y → rowOf y ≡ rowAt (getD (seven y n) 0 0) (rowIf o)
-row-at (booking r l p) (booked c i b f) n a = refl
-row-at (booking r l p) (swept d) n a = absurd a
-row-at (booking r l p) (refused x) n a = elim (case-eq x 0) [ inl y ↦ absurd (omega (arith, a, y .0)) | inr y ↦ rw (y .1) ]
-row-at (sweep moment) (booked c i b f) n a = absurd a
-row-at (sweep moment) (swept d) n a = refl
-row-at (sweep moment) (refused x) n a = elim (case-eq x 0) [ inl y ↦ absurd (omega (arith, a, y .0)) | inr y ↦ rw (y .1) ]
 
 step-door : (s : State) (t : Tally) (bytes : List ℕ) → StepDoor t bytes (stepOn s t (reading bytes))
 step-door s t bytes = go (reading bytes) refl (reading-fair bytes)
@@ -192,20 +178,25 @@ pub run-door : (t : Tally) (bytes m m′ out out′ : List ℕ) (x : RunDone) �
 run-door t bytes m m′ out out′ x h p q (inl (s, W, H, A)) =
     let y = runOn s t (length out) bytes in
     let E = run-ends s t (length out) bytes in
+    let k = bytesOf (length (y .answers)) bytes in
+    let C = end-codes (length bytes - k) (drop k bytes) (length out - 7 * length (y .answers)) (y .code) (E .left) in
     let I = run-is-orders s t (length out) bytes in
     let within = run-within t bytes x m m′ out out′ (inl (s, W, H, A)) in
     let os = ordersIn (length (y .answers)) bytes in
     let l : length (flat (y .answers)) ≡ 7 * length (y .answers) = ap (λ a. length (flat a)) (I .answers) ∙ flat-length s os ∙ ap (λ n. 7 * n) (I .many) in
     record {
-      code = rw (A .code) (elim (E .code) [ inl k ↦ inl k | inr k ↦ inr (inr k) ]);
-      whole = ((λ k. absurd (elim (E .code) [ inl j ↦ omega (arith, A .code, k, j) | inr j ↦ elim j [ inl i ↦ omega (arith, A .code, k, i) | inr i ↦ omega (arith, A .code, k, i) ] ])), (λ k. absurd (k (s, W, H))));
+      code = rw (A .code) (elim (C .0) [ inl k ↦ inl k | inr k ↦ inr (inr k) ]);
+      whole = ((λ k. absurd (elim (C .0) [ inl j ↦ omega (arith, A .code, k, j) | inr j ↦ elim j [ inl i ↦ omega (arith, A .code, k, i) | inr i ↦ omega (arith, A .code, k, i) ] ])), (λ k. absurd (k (s, W, H))));
       refused = λ k.
           let rest = drop (7 * length (y .answers)) out in
           let v = subst (AllRefused (x .ran .answered)) (A .slice ∙ ap (λ a. flat a ++ rest) (I .answers)) k in
           let u = subst (λ n. AllRefused n (flat (sevens s os) ++ rest)) (A .answered ∙ sym (I .many)) v in
           let e : y .state ≡ s = I .state ∙ all-refused-same s os rest u in
           after-same m m′ s W p q H (subst (After m m′) e (A .after));
-      place = (omega (arith, A .place, E .inside), (λ k. omega (arith, A .place, E .well (sym (A .code) ∙ k))));
+      place = (
+        omega (arith, A .place, E .place, E .inside),
+        (λ k. omega (arith, A .place, E .place, E .inside, C .1 (sym (A .code) ∙ k))),
+      );
       answers = within;
       slice = (
         rw (A .slice) (omega (arith, length-append (flat (y .answers)) (drop (7 * length (y .answers)) out), l, length-drop (7 * length (y .answers)) out, A .answered, within)),

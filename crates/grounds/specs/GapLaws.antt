@@ -8,7 +8,11 @@ use Rattle.rule.specs.Moments.{lastMoment}
 use Rattle.rule.specs.Settings.{Settings, inBounds}
 use Rattle.rule.specs.Order.{Order}
 use Rattle.rule.specs.Answer.{seven}
-use Rattle.state.specs.State.{meaning}
+use Rattle.shape.specs.Tree.{Tree}
+use Rattle.node.specs.Layout.{rootSeat}
+use Rattle.node.specs.Rep.{Stands}
+use Rattle.node.proofs.Reps.{one-tree}
+use Rattle.state.specs.State.{State, meaning}
 use Rattle.state.specs.Act.{act}
 use Rattle.state.specs.Sound.{Sound, mostKey}
 use Rattle.state.specs.Open.{fresh}
@@ -17,12 +21,13 @@ use Rattle.state.specs.Range.{InRange, AllInRange}
 use Rattle.state.specs.History.{Event}
 use Rattle.state.specs.Life.{Life, born, next, live}
 use Rattle.state.specs.HistoryLaws.{now-sound, now-settings, now-floor, voids-of-history}
+use Rattle.state.specs.Made.{Made, made-one, now-made}
 use Rattle.running.specs.Run.{flat}
 use Rattle.memory.specs.Holds.{Holds}
 use Rattle.grounds.specs.Orders.{sevens}
 use Rattle.grounds.specs.Sevens.{seven-take, seven-drop}
 use Rattle.grounds.specs.SessionLaws.{heard-next, heard-all, live-after, call-went, opened-begun}
-use Rattle.grounds.specs.Session.{Each, Call, Since, opened, more, heardAll}
+use Rattle.grounds.specs.Session.{Each, Call, Since, opened, more, heardAll, TreeOf}
 use Rattle.grounds.specs.Right.{Means, Right}
 use Rattle.grounds.specs.OnceLaws.{once-voids}
 
@@ -56,6 +61,10 @@ module _ (g : Settings) (F : ℕ) (q : inBounds g ≡ true) (h : F ≤ lastMomen
 
   pub reached-settings : (x : Life) → Reached g F x → x .state .settings ≡ g
   reached-settings x R = subst (λ (y : Life). y .state .settings ≡ g) (R .is) (now-settings g F q h (R .orders) (R .range))
+
+  -- is what its history makes of it, every place included
+  pub reached-made : (x : Life) → Reached g F x → Made g F (x .past) (x .state)
+  reached-made x R = subst (λ (y : Life). Made g F (y .past) (y .state)) (R .is) (now-made g F q h (R .orders) (R .range))
 
   -- means what its history makes of it
   pub reached-means : (x : Life) → Reached g F x → Means g F (x .past) (meaning (x .state))
@@ -126,6 +135,15 @@ standing {g} {F} (more {past} {m} {m′} {orders} {numbers} S c) =
       heard = sym (heard-all g x orders (W .rest) (reached-settings g F (B .0) (B .1) x (T .reached)))
           ∙ ap (λ a. heardAll g orders a (x .past)) (sym (W .answers)) ∙ ap (heardAll g orders numbers) (T .heard);
     }
+
+-- the tree of a history is that of every link that orders have made of a fresh one with this history
+pub tree-reached : {g : Settings} {F : ℕ} {past : List Event} (x : Life) (T : Tree) → Reached g F x → x .past ≡ past → TreeOf g F past T → T ≡ x .state .tree
+tree-reached {g} {F} {past} x T R e (m, S, t) =
+    let B = begun S in
+    let U = standing S in
+    let made : (y : Life) → Reached g F y → y .past ≡ past → Made g F past (y .state) = λ y Q p. subst (λ h. Made g F h (y .state)) p (reached-made g F (B .0) (B .1) y Q) in
+    let q = made-one g F past (U .life .state) (x .state) (made (U .life) (U .reached) (U .heard)) (made x R e) in
+    one-tree t (U .holds .stands) ∙ ap (λ (s : State). s .tree) q
 
 module _ {g : Settings} {F : ℕ} {past : List Event} {m : List ℕ} (S : Since g F past m) where
   -- what the link in the memory means is what the history makes of it

@@ -23,10 +23,8 @@ use Rattle.calls.specs.Calls.{Acts, Tells}
 use Rattle.grounds.specs.Memories.{tells-of, same-link}
 use Rattle.grounds.specs.Doors.{act-door, run-door}
 use Rattle.grounds.specs.Session.{Call, Since, more, heardAll, Each}
-use Rattle.grounds.specs.SessionLaws.{call-went}
 use Rattle.grounds.specs.Right.{Means, Right}
 use Rattle.grounds.specs.GapLaws.{begun, standing, standing-means, each-call, right}
-use Rattle.grounds.specs.Visits.{CountsOf, orders-count}
 
 module _ {g : Settings} {F : ℕ} {past : List Event} {m : List ℕ} (S : Since g F past m) where
   pub always-whole : Whole m
@@ -49,14 +47,6 @@ module _ {g : Settings} {F : ℕ} {past : List Event} {m : List ℕ} (S : Since 
   -- demand 2 by the rule: each order is answered by the rule over the gaps of the history, and leaves the gaps of the history after it
   pub each-right : {m′ numbers : List ℕ} {orders : List Order} → Call m orders numbers m′ → Each (Right g F) g past orders numbers
   each-right c = each-call S (Right g F) (right g F (begun S .0) (begun S .1)) c
-
-  -- demand 3 on the link in the memory: each order reports the visits on its own tree
-  pub each-counted : {m′ numbers : List ℕ} {orders : List Order} → Call m orders numbers m′ → (s : State) × Sound s × Holds m s × CountsOf s orders numbers
-  each-counted {orders} c =
-      let T = standing S in
-      let s = T .life .state in
-      let W = call-went c s (T .sound) (T .holds) in
-      (s, T .sound, T .holds, subst (CountsOf s orders) (sym (W .answers)) (orders-count s orders (W .rest) (T .sound) (W .range)))
 
   -- a call that leaves the memory as it was leaves the gaps of the history as they were
   pub same-memory : {numbers : List ℕ} {orders : List Order} → Call m orders numbers m → (M : Meaning) × Means g F past M × Means g F (heardAll g orders numbers past) M

@@ -3,11 +3,11 @@
 use mathlib.Core.Path.{_≡_}
 use mathlib.Core.List.{List, [], _∷_}
 use Prim.Native.Nat.{ℕ, zero, suc}
-use lib.ListN.{drop}
+use lib.ListN.{getD, take, drop}
 use Rattle.tally.specs.declared.Tally.{Tally}
 use Rattle.rule.specs.Order.{Order}
 use Rattle.rule.specs.Answer.{seven}
-use Rattle.tally.specs.Counts.{rowOf, raised}
+use Rattle.tally.specs.Counts.{rowOf, rowIf, rowAt, raised}
 use Rattle.order.specs.Records.{Opening, unread, opening, order, reading}
 use Rattle.state.specs.State.{State}
 use Rattle.state.specs.Act.{act}
@@ -29,6 +29,11 @@ after s (o ∷ os) = after ((act s o) .after) os
 abbrev pub tallied : State → Tally → List Order → Tally
 tallied s t [] = t
 tallied s t (o ∷ os) = tallied ((act s o) .after) (raised t (rowOf ((act s o) .reply))) os
+
+-- the tally after orders and their seven numbers, one after the other: "An order acted on raises exactly one count"
+abbrev pub counted : Tally → List Order → (numbers : List ℕ) → Tally
+counted t [] a = t
+counted t (o ∷ os) a = counted (raised t (rowAt (getD (take 7 a) 0 0) (rowIf o))) os (drop 7 a)
 
 -- ---- the first record of the bytes: an order, or none
 pub orders-one : (n : ℕ) (bytes : List ℕ) (used : ℕ) (o : Order) → reading bytes ≡ order used o → ordersIn (suc n) bytes ≡ o ∷ ordersIn n (drop used bytes)

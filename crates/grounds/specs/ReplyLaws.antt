@@ -1,20 +1,21 @@
 -- Which replies an order can have: a booking is booked or refused by 3 to 8, a sweep is swept or refused by 9 or 10.
 -- 01, What comes back: "one count for bookings, one for sweeps, one for each of codes 3 to 10".
 use mathlib.Core.Path.{_≡_, refl}
+use mathlib.Core.Logic.{inl, inr}
 use mathlib.Core.Bool.{Bool, true, false}
 use Prim.Native.Nat.{ℕ, zero, suc, _+_, _≤_, _<_}
 use native.Mathlib.Omega.{arith}
 use lib.Dec.{ltb, eqb}
-use lib.ListN.{length}
-use Rattle.numbers.specs.Case.{pick}
+use lib.ListN.{length, getD}
+use Rattle.numbers.specs.Case.{pick, case-eq}
 use Rattle.rule.specs.Moments.{lastMoment}
 use Rattle.rule.specs.Settings.{Settings}
 use Rattle.rule.specs.Fit.{hold, free}
 use Rattle.rule.specs.Starts.{starts}
 use Rattle.rule.specs.Choice.{Choice, nothing, taken}
 use Rattle.rule.specs.Order.{Order, booking, sweep}
-use Rattle.rule.specs.Answer.{Reply, booked, swept, refused}
-use Rattle.tally.specs.Counts.{rows, rowOf}
+use Rattle.rule.specs.Answer.{Reply, booked, swept, refused, seven}
+use Rattle.tally.specs.Counts.{rows, rowOf, rowIf, rowAt}
 use Rattle.rule.specs.Codes.{bookingCode, sweepCode, lacked, tooMany, chosenReply}
 use Rattle.shape.specs.Tree.{size}
 use Rattle.state.specs.State.{State}
@@ -75,3 +76,12 @@ row-apt (booking r l m) (refused x) a = omega arith
 row-apt (sweep moment) (booked c i b f) a = absurd a
 row-apt (sweep moment) (swept d) a = omega arith
 row-apt (sweep moment) (refused x) a = omega arith
+
+-- the row that a reply raises, by its code
+pub row-at : (o : Order) (y : Reply) (n : ℕ) → Apt o y → rowOf y ≡ rowAt (getD (seven y n) 0 0) (rowIf o)
+row-at (booking r l p) (booked c i b f) n a = refl
+row-at (booking r l p) (swept d) n a = absurd a
+row-at (booking r l p) (refused x) n a = elim (case-eq x 0) [ inl y ↦ absurd (omega (arith, a, y .0)) | inr y ↦ rw (y .1) ]
+row-at (sweep moment) (booked c i b f) n a = absurd a
+row-at (sweep moment) (swept d) n a = refl
+row-at (sweep moment) (refused x) n a = elim (case-eq x 0) [ inl y ↦ absurd (omega (arith, a, y .0)) | inr y ↦ rw (y .1) ]

@@ -14,6 +14,9 @@ use Rattle.rule.specs.Order.{Order, booking, sweep}
 use Rattle.rule.specs.Answer.{numbersOf}
 use Rattle.order.specs.Records.{opening, reading}
 use Rattle.numbers.specs.Words.{Bytes}
+use Rattle.shape.specs.Tree.{Tree}
+use Rattle.node.specs.Layout.{rootSeat}
+use Rattle.node.specs.Rep.{Stands}
 use Rattle.state.specs.History.{Event, books, sweeps}
 use Rattle.calls.specs.declared.open.Opened.{Opened}
 use Rattle.calls.specs.declared.act.Done.{Done}
@@ -46,6 +49,10 @@ pub data Since (g : Settings) (F : ℕ) : (past : List Event) → (m : List ℕ)
   opened : {m : List ℕ} (before bytes : List ℕ) (used : ℕ) (o : Opened) → Bytes bytes → Opens (g .room) bytes o before m → o .code ≡ 0
       → reading bytes ≡ opening used (record { channels = g .channels; delays = g .delays; leap = g .leap; floor = F }) → Since g F [] m
   more : {past : List Event} {m m′ : List ℕ} {orders : List Order} {numbers : List ℕ} → Since g F past m → Call m orders numbers m′ → Since g F (heardAll g orders numbers past) m′
+
+-- T is the tree that a memory with this history holds
+abbrev pub TreeOf : Settings → (F : ℕ) → (past : List Event) → Tree → Type 0
+TreeOf g F past T = (m : List ℕ) × Since g F past m × Stands m rootSeat T
 
 -- R holds of each order of a call and its seven numbers, after the history before it
 abbrev pub Each : (List Event → Order → List ℕ → Type 0) → Settings → List Event → List Order → (numbers : List ℕ) → Type 0

@@ -21,8 +21,8 @@ use Rattle.grounds.specs.Memories.{acts-on}
 use Rattle.grounds.specs.AnsweredLaws.{sound-answered}
 
 pub whole-answered : (m m′ : List ℕ) (s : State) → Sound s → Holds m s → (t : Tally) (bytes : List ℕ) (d : Done) (used : ℕ) (o : Order)
-    → Acts t bytes d m m′ → reading bytes ≡ order used o → Answered (s .settings) (s .floor) (VoidsIn (s .tree)) o (numbersOf (d .acted .answer))
+    → Acts t bytes d m m′ → reading bytes ≡ order used o → Answered (s .settings) (s .floor) (VoidsIn (s .tree)) (s .tree) o (numbersOf (d .acted .answer))
 whole-answered m m′ s W H t bytes d used o a q =
     let A = acts-on t bytes m m′ d a s W H in
     let e : numbersOf (d .acted .answer) ≡ seven ((act s o) .reply) ((act s o) .count) = A .numbers ∙ ap (λ z. (stepOn s t z) .numbers) q in
-    subst (Answered (s .settings) (s .floor) (VoidsIn (s .tree)) o) (sym e) (sound-answered s W (VoidsIn (s .tree)) (λ c b j. has-voids c b j (s .tree)) o)
+    subst (Answered (s .settings) (s .floor) (VoidsIn (s .tree)) (s .tree) o) (sym e) (sound-answered s W (VoidsIn (s .tree)) (λ c b j. has-voids c b j (s .tree)) o)

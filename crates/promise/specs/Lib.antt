@@ -1,7 +1,8 @@
--- The theorems that a reader reads: demand 1; demands 2 and 3; 3 on the tree in the memory; both of every whole link; one outcome; a run is its single orders; the stand-ins.
+-- The theorems that a reader reads: demand 1; openings and the ends of runs; demands 2 and 3; both of every whole link; one outcome; a run is
+-- its single orders; the stand-ins.
 pub mod Safety
+pub mod Ends
 pub mod Demands
-pub mod Visited
 pub mod Everywhere
 pub mod One
 pub mod Singly

@@ -3,9 +3,10 @@
 use mathlib.Core.Path.{_≡_, refl, sym, _∙_, ap, subst}
 use mathlib.Core.Logic.{inl, inr}
 use mathlib.Core.List.{List, [], _∷_, _++_}
-use Prim.Native.Nat.{ℕ, suc, _+_, _*_, _≤_}
+use Prim.Native.Nat.{ℕ, suc, _+_, _*_, _≤_, _<_}
 use native.Mathlib.Omega.{arith}
-use lib.ListN.{length, drop}
+use lib.ListN.{length, take, drop}
+use lib.Seq.{take-length}
 use Rattle.tally.specs.declared.Tally.{Tally}
 use Rattle.rule.specs.Order.{Order}
 use Rattle.rule.specs.Answer.{seven, numbersOf}
@@ -25,9 +26,10 @@ use Rattle.running.specs.declared.RunDone.{RunDone}
 use Rattle.running.specs.Run.{runOn, flat}
 use Rattle.running.specs.Runs.{Runs}
 use Rattle.calls.specs.Calls.{StepsTo, Acts}
-use Rattle.grounds.specs.Orders.{ordersIn, orders-one, sevens, after, tallied}
+use Rattle.grounds.specs.Orders.{ordersIn, orders-one, sevens, after, tallied, counted}
 use Rattle.grounds.specs.RecordLaws.{bytes-drop, order-fair}
-use Rattle.grounds.specs.RunLaws.{run-is-orders, after-sound, after-settings, Below, below-all, sum-rises}
+use Rattle.grounds.specs.RunLaws.{run-is-orders, after-sound, after-settings}
+use Rattle.grounds.specs.TallyLaws.{counted-tallied, Below, sum-rises}
 use Rattle.grounds.specs.Memories.{acts-on, after-one}
 
 -- single orders, each on the bytes that the one before did not use, on the memory and with the tally that it left
@@ -95,12 +97,28 @@ run-is-singly t t″ bytes m m′ m″ out out′ x answers h p q (inr (n, A)) r
     let N = no-singles out r (e ∙ z) in
     (ap (λ y. y .tally) (A .answer) ∙ N .0, A .same ∙ N .1, A .slice ∙ N .2)
 
--- "While no count is at its top, the sum rises by the orders acted on": over a run on any memory. A count at its top stays there
-pub run-sum : (t : Tally) (bytes m m′ out out′ : List ℕ) (x : RunDone) → Runs t bytes x m m′ out out′ → Below (x .tally) → sum (counts (x .tally)) ≡ sum (counts t) + x .ran .answered
+-- "An order acted on raises exactly one count": of each order of a run, by its kind and its code
+pub run-tally : (t : Tally) (bytes m m′ out out′ : List ℕ) (x : RunDone) → Runs t bytes x m m′ out out′ → x .tally ≡ counted t (ordersIn (x .ran .answered) bytes) out′
+run-tally t bytes m m′ out out′ x (inl (s, W, H, A)) =
+    let I = run-is-orders s t (length out) bytes in
+    let n = length ((runOn s t (length out) bytes) .answers) in
+    let os = ordersIn n bytes in
+    let rest = drop (7 * n) out in
+    let e : tallied s t os ≡ counted t os (flat (sevens s os) ++ rest) = subst (λ l. tallied s t l ≡ counted t l (flat (sevens s os) ++ rest)) (take-length os) (sym (counted-tallied (length os) s t os rest)) in
+    A .tally ∙ I .tally ∙ e ∙ (rw (A .answered, A .slice ∙ ap (λ l. flat l ++ rest) (I .answers)))
+run-tally t bytes m m′ out out′ x (inr (n, A)) = rw (A .answer)
+
+-- "While no count is at its top, the sum rises by the orders acted on": if none is before each order of a run on any memory
+pub run-sum : (t : Tally) (bytes m m′ out out′ : List ℕ) (x : RunDone) → Runs t bytes x m m′ out out′
+    → ((n : ℕ) → n < x .ran .answered → Below (counted t (take n (ordersIn (x .ran .answered) bytes)) out′)) → sum (counts (x .tally)) ≡ sum (counts t) + x .ran .answered
 run-sum t bytes m m′ out out′ x (inl (s, W, H, A)) b =
     let I = run-is-orders s t (length out) bytes in
-    let os = ordersIn (length ((runOn s t (length out) bytes) .answers)) bytes in
-    let e : x .tally ≡ tallied s t os = A .tally ∙ I .tally in
-    let z = sum-rises s t os (below-all s t os (subst Below e b) .1) in
-    ap (λ k. sum (counts k)) e ∙ (omega (arith, z, I .many, A .answered))
+    let k = length ((runOn s t (length out) bytes) .answers) in
+    let os = ordersIn k bytes in
+    let rest = drop (7 * k) out in
+    let slice : out′ ≡ flat (sevens s os) ++ rest = A .slice ∙ ap (λ l. flat l ++ rest) (I .answers) in
+    let low : (n : ℕ) → n < length os → Below (tallied s t (take n os)) = λ n l.
+    subst Below (ap (counted t (take n os)) slice ∙ counted-tallied n s t os rest) (subst (λ j. Below (counted t (take n (ordersIn j bytes)) out′)) (A .answered) (b n (omega (arith, l, I .many, A .answered)))) in
+    let z = sum-rises s t os low in
+    ap (λ k. sum (counts k)) (A .tally ∙ I .tally) ∙ (omega (arith, z, I .many, A .answered))
 run-sum t bytes m m′ out out′ x (inr (n, A)) b = rw (A .answer) (omega arith)

@@ -13,4 +13,5 @@ pub mod Rule
 pub mod Key
 pub mod Height
 pub mod Single
+pub mod Left
 pub mod Edges

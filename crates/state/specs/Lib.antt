@@ -29,12 +29,11 @@ pub mod VoidLaws
 pub mod ChosenLaws
 pub mod ReplacedLaws
 pub mod RuleLaws
-pub mod Count
-pub mod CountLaws
 pub mod RefusedLaws
 pub mod ExactLaws
 pub mod BoundLaws
 pub mod WidenLaws
 pub mod OpenLaws
 pub mod HistoryLaws
+pub mod Made
 pub mod SettingsLaws

@@ -12,6 +12,7 @@ use Rattle.rule.specs.Starts.{Start}
 use Rattle.rule.specs.Choice.{NoFit, MinSV, Choice, nothing, taken, Chosen}
 use Rattle.rule.specs.Kept.{dropped}
 use Rattle.rule.specs.Single.{OneEnd}
+use Rattle.rule.specs.Left.{has-left, has-right, has-either}
 use Rattle.shape.specs.Tree.{Tree, leaf, node, size, Ord, In}
 use Rattle.shape.specs.TreeLaws.{same-key}
 use Rattle.shape.specs.Voids.{VoidsIn}
@@ -19,24 +20,10 @@ use Rattle.state.specs.State.{voidsOf}
 use Rattle.state.specs.Act.{toDrop}
 
 module _ (c s e : ℕ) where
-  has-left : (xs ys : List Void) → Has xs c s e → Has (xs ++ ys) c s e
-  has-left (x ∷ xs) ys (inl h) = inl h
-  has-left (x ∷ xs) ys (inr h) = inr (has-left xs ys h)
-  has-left [] ys h = absurd h
-
-  has-right : (xs ys : List Void) → Has ys c s e → Has (xs ++ ys) c s e
-  has-right [] ys h = h
-  has-right (x ∷ xs) ys h = inr (has-right xs ys h)
-
-  has-either : (xs ys : List Void) → Has (xs ++ ys) c s e → Has xs c s e ⊎ Has ys c s e
-  has-either [] ys h = inr h
-  has-either (x ∷ xs) ys (inl h) = inl (inl h)
-  has-either (x ∷ xs) ys (inr h) = elim (has-either xs ys h) [ inl y ↦ inl (inr y) | inr y ↦ inr y ]
-
   has-in : (t : Tree) → Has (voidsOf t) c s e → VoidsIn t c s e
   has-in (leaf k e′) (inl h) = record { key = k; inside = (refl, sym (h .2)); channel = h .0; start = h .1 }
   has-in (leaf k e′) (inr h) = absurd h
-  has-in (node q l r) h = go (has-in l) (has-in r) (has-either (voidsOf l) (voidsOf r) h)
+  has-in (node q l r) h = go (has-in l) (has-in r) (has-either c s e (voidsOf l) (voidsOf r) h)
     where
       go : (Has (voidsOf l) c s e → VoidsIn l c s e) → (Has (voidsOf r) c s e → VoidsIn r c s e) → Has (voidsOf l) c s e ⊎ Has (voidsOf r) c s e → VoidsIn (node q l r) c s e
       go f g (inl x) = let v = f x in record { key = v .key; inside = inl (v .inside); channel = v .channel; start = v .start }
@@ -44,8 +31,8 @@ module _ (c s e : ℕ) where
 
   in-has : (t : Tree) (k : ℕ) → In k e t → channelOf k ≡ c → startOf k ≡ s → Has (voidsOf t) c s e
   in-has (leaf k′ e′) k i q r = inl (omega arith)
-  in-has (node m l r) k (inl i) q z = has-left (voidsOf l) (voidsOf r) (in-has l k i q z)
-  in-has (node m l r) k (inr i) q z = has-right (voidsOf l) (voidsOf r) (in-has r k i q z)
+  in-has (node m l r) k (inl i) q z = has-left c s e (voidsOf l) (voidsOf r) (in-has l k i q z)
+  in-has (node m l r) k (inr i) q z = has-right c s e (voidsOf l) (voidsOf r) (in-has r k i q z)
 
   pub has-voids : (t : Tree) → Has (voidsOf t) c s e ↔ VoidsIn t c s e
   has-voids t = (has-in t, (λ v. in-has t (v .key) (v .inside) (v .channel) (v .start)))

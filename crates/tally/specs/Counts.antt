@@ -3,6 +3,7 @@ use mathlib.Core.List.{List, [], _∷_}
 use Prim.Native.Nat.{ℕ, _+_, _-_, _^_}
 use lib.Dec.{eqb}
 use Rattle.numbers.specs.Case.{pick}
+use Rattle.rule.specs.Order.{Order, booking, sweep}
 use Rattle.rule.specs.Answer.{Reply, booked, swept, refused}
 use Rattle.tally.specs.declared.Tally.{Tally}
 
@@ -29,6 +30,11 @@ abbrev pub rowOf : Reply → ℕ
 rowOf (booked c i r f) = 0
 rowOf (swept d) = 1
 rowOf (refused x) = x - 1
+
+-- "one count for bookings, one for sweeps": the row of an order that is accepted
+abbrev pub rowIf : Order → ℕ
+rowIf (booking r l p) = 0
+rowIf (sweep moment) = 1
 
 -- the tally's row of an answer with this code, of an order that if accepted is counted in the row given
 abbrev pub rowAt : (code accepted : ℕ) → ℕ
