@@ -15,11 +15,11 @@ impl Peer for Array {
         Array { voids: (0..channels).rev().map(|channel| (key(0, channel), OPEN_END)).collect(), room }
     }
 
-    fn book(&mut self, r: u64, f: u64) -> Result<u64, u64> {
+    fn book(&mut self, r: u64, f: u64, front: bool) -> Result<u64, u64> {
         let started = self.voids.partition_point(|void| void.0 <= last_key(r));
         let place = self.voids[..started].iter().rposition(|void| f <= void.1).ok_or(NOTHING_FITS)?;
         let (taken, end) = self.voids[place];
-        let (channel, in_front) = (channel_of(taken), start_of(taken) < r);
+        let (channel, in_front) = (channel_of(taken), front && start_of(taken) < r);
         let behind = (key(f, channel), end);
         let after = started + self.voids[started..].partition_point(|void| *void < behind);
         match (in_front, f < end) {

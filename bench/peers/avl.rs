@@ -219,13 +219,13 @@ impl Peer for Avl {
         tree
     }
 
-    fn book(&mut self, r: u64, f: u64) -> Result<u64, u64> {
+    fn book(&mut self, r: u64, f: u64, front: bool) -> Result<u64, u64> {
         let x = self.seek(r, f);
         if x == NONE {
             return Err(NOTHING_FITS);
         }
         let Node { key: taken, end, .. } = *self.at(x);
-        let (channel, in_front) = (channel_of(taken), start_of(taken) < r);
+        let (channel, in_front) = (channel_of(taken), front && start_of(taken) < r);
         if in_front && f < end && self.kept == self.room {
             return Err(ROOM_FULL);
         }

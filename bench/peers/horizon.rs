@@ -11,7 +11,7 @@ impl Peer for Horizon {
         Horizon { free: (0..channels).rev().map(|channel| key(0, channel)).collect() }
     }
 
-    fn book(&mut self, r: u64, f: u64) -> Result<u64, u64> {
+    fn book(&mut self, r: u64, f: u64, _front: bool) -> Result<u64, u64> {
         let after = self.free.partition_point(|free| *free <= last_key(r));
         let taken = after.checked_sub(1).ok_or(NOTHING_FITS)?;
         let channel = channel_of(self.free[taken]);

@@ -113,10 +113,10 @@ impl<S: Store, const BULK: bool, const SMOOTH: bool, const ONE: bool> Peer for L
         tree
     }
 
-    fn book(&mut self, r: u64, f: u64) -> Result<u64, u64> {
+    fn book(&mut self, r: u64, f: u64, front: bool) -> Result<u64, u64> {
         let found = search::<S, SMOOTH, ONE>(&self.store, &mut self.ways, r, f).ok_or(NOTHING_FITS)?;
         let (taken, end) = self.store.void(found.slot);
-        let (channel, in_front) = (channel_of(taken), start_of(taken) < r);
+        let (channel, in_front) = (channel_of(taken), front && start_of(taken) < r);
         if in_front && f < end && self.kept == self.room {
             return Err(ROOM_FULL);
         }

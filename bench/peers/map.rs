@@ -13,11 +13,11 @@ impl Peer for Map {
         Map { voids: (0..channels).map(|channel| (key(0, channel), OPEN_END)).collect(), room }
     }
 
-    fn book(&mut self, r: u64, f: u64) -> Result<u64, u64> {
+    fn book(&mut self, r: u64, f: u64, front: bool) -> Result<u64, u64> {
         let full = self.voids.len() == self.room;
         let fit = self.voids.range_mut(..=last_key(r)).rev().find(|(_, end)| f <= **end);
         let (&taken, end) = fit.ok_or(NOTHING_FITS)?;
-        let (channel, in_front, old) = (channel_of(taken), start_of(taken) < r, *end);
+        let (channel, in_front, old) = (channel_of(taken), front && start_of(taken) < r, *end);
         if in_front {
             if full && f < old {
                 return Err(ROOM_FULL);

@@ -46,9 +46,9 @@ pub fn channel_of(key: u64) -> u64 {
 pub trait Peer {
     /// The most voids kept is `room`; each channel begins with the void (0, open end).
     fn open(channels: u64, room: usize) -> Self;
-    /// Takes the Min-SV fit of (r, f) and puts its pieces in its place: the channel, or code 7 or 8.
-    fn book(&mut self, r: u64, f: u64) -> Result<u64, u64>;
-    /// Drops each void with e < moment: how many.
+    /// Takes the Min-SV fit of (r, f) and puts its pieces in its place, that in front only if told so: the channel, or code 7 or 8.
+    fn book(&mut self, r: u64, f: u64, front: bool) -> Result<u64, u64>;
+    /// Drops each void that ends before the moment: how many.
     fn sweep(&mut self, moment: u64) -> u64;
     fn kept(&self) -> usize;
 }
@@ -81,7 +81,7 @@ impl<P: Peer> Link<P> {
         if LAST_MOMENT < f {
             return Err(6);
         }
-        let channel = self.peer.book(r, f)?;
+        let channel = self.peer.book(r, f, self.floor < r)?; // 02, K3: a piece that ends at the floor has ended
         Ok(Reply { channel, start: r, finish: f, ..Reply::default() })
     }
 
@@ -93,7 +93,7 @@ impl<P: Peer> Link<P> {
             return Err(10);
         }
         self.floor = moment;
-        Ok(Reply { dropped: self.peer.sweep(moment), ..Reply::default() })
+        Ok(Reply { dropped: self.peer.sweep(moment + 1), ..Reply::default() }) // K3: each void with e at or before the moment
     }
 }
 

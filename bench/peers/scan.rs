@@ -38,11 +38,11 @@ impl Peer for Scan {
         Scan { channels: vec![vec![whole]; channels as usize], kept: channels as usize, room }
     }
 
-    fn book(&mut self, r: u64, f: u64) -> Result<u64, u64> {
+    fn book(&mut self, r: u64, f: u64, front: bool) -> Result<u64, u64> {
         let (channel, place) = self.seek(r, f).ok_or(NOTHING_FITS)?;
         let voids = &mut self.channels[channel];
         let Void { start, end } = voids[place];
-        match (start < r, f < end) {
+        match (front && start < r, f < end) {
             (true, true) if self.kept == self.room => return Err(ROOM_FULL),
             (true, true) => {
                 voids[place].end = r;

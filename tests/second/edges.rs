@@ -26,6 +26,10 @@ fn link(room: u64, channels: u64, delays: &[u64], voids: &[(u64, u64, u64)]) -> 
     Link { room, channels, delays: delays.to_vec(), leap: 1000, floor: 0, voids }
 }
 
+fn at(floor: u64, link: Link) -> Link {
+    Link { floor, ..link }
+}
+
 pub fn edges(bench: &mut Bench, seen: &mut Seen) -> Result<(), String> {
     let (input, printed) = session_of_01();
     if input[..32] != *b"\x4F\x4C\x02\x01\x00\x00\x03\xE8\x00\x00\x00\x00\x00\x00\x00\x00\x00\x05\x4F\x42\x00\x00\x00\x00\x00\x0A\x00\x00\x00\x05\x00\x00" {
@@ -46,11 +50,14 @@ pub fn edges(bench: &mut Bench, seen: &mut Seen) -> Result<(), String> {
         (link(4, 1, &[], &[open]), ob((1 << 48) - 1, 1, 0), refused(6)),
         (link(8, 2, &[], &[(0, 3, 20), (1, 3, 20)]), ob(4, 4, 0), booked(0, 0, 4, 8)),
         (link(8, 2, &[], &[(0, 3, 20), (1, 4, 20)]), ob(4, 4, 0), booked(1, 0, 4, 8)),
-        (link(8, 3, &[], &[(0, 0, 10), (1, 0, 11), (2, 0, 12)]), os(11), swept(1)),
+        (link(8, 3, &[], &[(0, 0, 10), (1, 0, 11), (2, 0, 12)]), os(11), swept(2)), // K3: (0,11) too
         (link(4, 1, &[], &[open]), os(1000), swept(0)),
         (link(4, 1, &[], &[open]), os(1001), refused(10)),
         (link(1, 1, &[], &[open]), ob(10, 5, 0), refused(8)),
         (link(1, 1, &[], &[open]), ob(0, 5, 0), booked(0, 0, 0, 5)),
+        // K3: at floor 10 the piece in front of a booking at 10 is not kept; at floor 9 it is, and the room is full
+        (at(10, link(1, 1, &[], &[(0, 3, OPEN_END)])), ob(10, 5, 0), booked(0, 0, 10, 15)),
+        (at(9, link(1, 1, &[], &[(0, 3, OPEN_END)])), ob(10, 5, 0), refused(8)),
         (link(4, 1, &[5, 9], &[(0, 18, OPEN_END)]), ob(10, 1, 3), booked(0, 2, 19, 20)),
         // 01's "Where a builder goes astray": an exact fit by its end, a straddling void keeps its start, the delay is settled first
         (link(8, 2, &[], &[(0, 3, 20), (1, 3, 9)]), ob(9, 11, 0), booked(0, 0, 9, 20)),

@@ -120,7 +120,7 @@ pub fn whole(memory: &[u8]) -> Result<Image, &'static str> {
         demand(void.channel < channels, "voids: a channel of the link")?;
         demand(void.start < void.end, "voids: s < e")?;
         demand(void.end <= OPEN_END, "voids: e at most the open end")?;
-        demand(void.end >= floor, "voids: ends at or after the floor")?;
+        demand(void.end > floor, "voids: end after the floor")?;
     }
     for channel in 0..channels {
         let of: Vec<&Void> = voids.iter().filter(|void| void.channel == channel).collect(); // by rising start

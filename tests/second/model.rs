@@ -196,7 +196,8 @@ impl Link {
             let Some(index) = self.taken(start, finish) else { continue };
             let void = self.voids[index];
             let pieces = [Void { end: start, ..void }, Void { start: finish, ..void }];
-            let pieces: Vec<Void> = pieces.into_iter().filter(|piece| piece.start < piece.end).collect();
+            // K3: a piece that ends at the floor has ended
+            let pieces: Vec<Void> = pieces.into_iter().filter(|piece| piece.start < piece.end && piece.end > self.floor).collect();
             if pieces.len() == 2 && self.voids.len() as u64 == self.room {
                 return refused(8);
             }
@@ -214,7 +215,7 @@ impl Link {
             return refused(10);
         }
         let before = self.voids.len();
-        self.voids.retain(|void| void.end >= moment);
+        self.voids.retain(|void| void.end > moment);
         self.floor = moment;
         [0, 0, 0, 0, 0, 0, (before - self.voids.len()) as u64]
     }
@@ -257,7 +258,7 @@ pub fn session(input: &[u8]) -> String {
 
 // ---------------------------------------------------------------------------------------------------------- the history
 
-/// The voids that 01 promises from the history alone: the maximal idle stretches with end at or after the floor.
+/// The voids that 01 promises from the history alone: the maximal idle stretches that end after the floor (02, K3).
 /// `bookings` are (channel, start, finish), `opened` is the floor at opening. A second look at `Link`, used at a session's end.
 pub fn idle_stretches(channels: u64, opened: u64, floor: u64, bookings: &[(u64, u64, u64)]) -> Vec<Void> {
     let mut voids = vec![];
@@ -272,7 +273,7 @@ pub fn idle_stretches(channels: u64, opened: u64, floor: u64, bookings: &[(u64, 
         }
         voids.push(Void { channel, start: idle_from, end: OPEN_END });
     }
-    voids.retain(|void| void.start < void.end && void.end >= floor);
+    voids.retain(|void| void.start < void.end && void.end > floor);
     voids.sort_by_key(|void| (void.start, u64::MAX - void.channel));
     voids
 }

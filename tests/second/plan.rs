@@ -99,8 +99,8 @@ pub fn grown(rng: &mut Rng, mood: &Mood, room: u64, voids: u64) -> Link {
             link.voids.push(Void { channel, start: start.min(LAST_MOMENT), end: OPEN_END });
         }
         if rng.chance(1, 3) {
-            // a floor later than some starts; every end at or after it
-            let least = link.voids.iter().map(|v| v.end).min().unwrap().min(LAST_MOMENT);
+            // a floor later than some starts; every end after it
+            let least = link.voids.iter().map(|v| v.end - 1).min().unwrap();
             link.floor = rng.span(link.floor, least.max(link.floor));
         }
         return link;

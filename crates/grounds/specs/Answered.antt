@@ -61,7 +61,7 @@ Unless zero P a = P
 Unless (suc x) P a = a ≡ refusal (suc x) 0
 
 -- what an order is answered by a link with settings g, at this floor, that keeps the voids W in the tree T.
--- A sweep "drops each void with e < T, no others", and has "0 in all but dropped"
+-- A sweep to T "drops each void with e at or before T" (02, K3), "no others", and has "0 in all but dropped"
 abbrev pub Answered : Settings → (floor : ℕ) → Voids → Tree → Order → (numbers : List ℕ) → Type 0
 Answered g floor W T (booking r l p) a = Unless (bookingCode g floor r l p) (Booked W T g floor r l p a) a
 Answered g floor W T (sweep moment) a = Unless (sweepCode g floor moment) ((d : ℕ) × Many d (λ c s e. W c s e × (stays moment e ≡ false)) × (a ≡ 0 ∷ 0 ∷ 0 ∷ 0 ∷ 0 ∷ 0 ∷ d ∷ [])) a

@@ -1,5 +1,5 @@
 -- A link that orders have made of a fresh one means what its history makes of it, and its orders are answered right.
--- 01, The booking rule: "So at any time the voids kept are the maximal idle stretches of the history with end at or after the floor."
+-- 01, The booking rule: "So at any time the voids kept are the maximal idle stretches of the history" that end after the floor (02, K3).
 use mathlib.Core.Path.{_≡_, refl, sym, _∙_, ap, subst}
 use mathlib.Core.Bool.{true}
 use mathlib.Core.List.{List, [], _∷_, _++_}

@@ -1,5 +1,5 @@
 -- Demand 2 over the history: the gaps kept after any calls since an accepted opening, and a further call answered by the rule over them.
--- 01, The booking rule: "So at any time the voids kept are the maximal idle stretches of the history with end at or after the floor."
+-- 01, The booking rule: "So at any time the voids kept are the maximal idle stretches of the history" that end after the floor (02, K3).
 use mathlib.Core.Path.{_≡_, sym, _∙_, ap, subst}
 use mathlib.Core.Logic.{_≢_}
 use mathlib.Core.List.{List}
@@ -37,7 +37,7 @@ module _ {g : Settings} {F : ℕ} {past : List Event} {m : List ℕ} (S : Since 
   pub run-never-2 : (t : Tally) (bytes m′ out out′ : List ℕ) (x : RunDone) → Bytes bytes → Bytes m → Bytes m′ → Runs t bytes x m m′ out out′ → x .ran .code ≢ 2
   run-never-2 t bytes m′ out out′ x h y z a q = run-door t bytes m m′ out out′ x h y z a .whole .0 q always-whole
 
-  -- "So at any time the voids kept are the maximal idle stretches of the history with end at or after the floor": as many as are told
+  -- "So at any time the voids kept are the maximal idle stretches of the history" that end after the floor (02, K3): as many as are told
   pub told-gaps : (x : Told) → Tells x m → (M : Meaning) × Means g F past M × (x ≡ record { code = 0; voids = length (M .voids) })
   told-gaps x a =
       let T = standing S in

@@ -1,6 +1,6 @@
 -- Demand 2 by the rule: an answer is the rule's (`Rule`) between what the history makes of a link before the order and after it. Nobody has
 -- to believe these words: Answered.antt says what is answered, and this is what follows for one who thinks in meanings.
--- 01, The booking rule: "the voids kept are the maximal idle stretches of the history with end at or after the floor".
+-- 01, The booking rule: "the voids kept are the maximal idle stretches of the history" that end after the floor (02, K3).
 use mathlib.Core.Path.{_≡_}
 use mathlib.Core.Logic.{_↔_}
 use mathlib.Core.List.{List, [], _∷_}

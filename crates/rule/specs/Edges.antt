@@ -1,4 +1,4 @@
--- The starred lines of 01, On the edge, as rows under a single claim, at the level of the definitions.
+-- The starred lines of 01, On the edge, and those that 02 adds, as rows under a single claim, at the level of the definitions.
 use mathlib.Core.Path.{_≡_, refl}
 use mathlib.Core.Logic.{inl, inr, _↔_, _≢_}
 use mathlib.Core.List.{List, [], _∷_}
@@ -100,6 +100,10 @@ opened room = link (settings 1 [] room) (void 0 0 openEnd ∷ [])
 abbrev three : Meaning
 three = link (settings 3 [] 4) (void 0 0 10 ∷ void 1 0 11 ∷ void 2 0 12 ∷ [])
 
+-- one channel, idle from 3 on, with room 1 and this floor
+abbrev since : (floor : ℕ) → Meaning
+since floor = at floor (settings 1 [] 1) (void 0 3 openEnd ∷ [])
+
 -- one channel, idle from 18 on, with delays 5 and 9
 abbrev delays : Meaning
 delays = link (settings 1 (5 ∷ 9 ∷ []) 4) (void 0 18 openEnd ∷ [])
@@ -110,7 +114,10 @@ pub record OnTheEdge : Type 0 where
   pub past-the-last-moment : Answers (opened 2) (booking (2 ^ 48 - 1) 1 0) (refused 6) (opened 2)
   pub equal-starts : Answers alike (booking 4 4 0) (booked 0 0 4 8) (link (settings 2 [] 4) (void 1 3 20 ∷ void 0 3 4 ∷ void 0 8 20 ∷ []))
   pub later-start : Answers later (booking 4 4 0) (booked 1 0 4 8) (link (settings 2 [] 4) (void 0 3 20 ∷ void 1 8 20 ∷ []))
-  pub sweep-drops : Answers three (sweep 11) (swept 1) (at 11 (settings 3 [] 4) (void 1 0 11 ∷ void 2 0 12 ∷ []))
+  -- with 02, K3: "the sweep to 11 also drops (0,11)"
+  pub sweep-drops : Answers three (sweep 11) (swept 2) (at 11 (settings 3 [] 4) (void 2 0 12 ∷ []))
+  -- K3: "a booking that starts at the floor keeps no piece in front of it", and "Code 8 counts only the pieces kept"
+  pub front-at-the-floor : Answers (since 10) (booking 10 5 0) (booked 0 0 10 15) (at 10 (settings 1 [] 1) (void 0 15 openEnd ∷ [])) × Answers (since 9) (booking 10 5 0) (refused 8) (since 9)
   pub leap : Answers (opened 1) (sweep 1000) (swept 0) (at 1000 (settings 1 [] 1) (void 0 0 openEnd ∷ [])) × Answers (opened 1) (sweep 1001) (refused 10) (opened 1)
   pub full-room : Answers (opened 1) (booking 10 5 0) (refused 8) (opened 1) × Answers (opened 1) (booking 0 5 0) (booked 0 0 0 5) (link (settings 1 [] 1) (void 0 5 openEnd ∷ []))
   pub both-delays : starts (5 ∷ 9 ∷ []) 10 1 3 ≡ record { line = 0; moment = 10 } ∷ record { line = 1; moment = 15 } ∷ record { line = 2; moment = 19 } ∷ []
@@ -137,6 +144,10 @@ on-the-edge = record {
   later-start = answers later _ _ _ (two-ends _ _ (λ q. omega arith))
       (taken 0 4 1 4 20, inl (refl, refl, first-of-two _ _ 4 8 (omega arith) (inl (omega arith))), refl, replaced-is later 1 4 20 4 8);
   sweep-drops = answers three _ _ _ (three-ends _ _ _ (λ q. omega arith) (λ q. omega arith) (λ q. omega arith)) (refl, swept-is three 11);
+  front-at-the-floor = (
+    answers (since 10) _ _ _ (one-end _) (taken 0 10 0 3 openEnd, at-once _ (settings 1 [] 1) 10 5 0 (omega arith), refl, replaced-is (since 10) 0 3 openEnd 10 15),
+    answers (since 9) _ _ _ (one-end _) (taken 0 10 0 3 openEnd, at-once _ (settings 1 [] 1) 10 5 0 (omega arith), refl, same (since 9)),
+  );
   leap = (answers (opened 1) _ _ _ (one-end _) (refl, swept-is (opened 1) 1000), answers (opened 1) _ _ _ (one-end _) (refl, same (opened 1)));
   full-room = (
     answers (opened 1) _ _ _ (one-end _) (taken 0 10 0 0 openEnd, at-once _ (settings 1 [] 1) 10 5 0 (omega arith), refl, same (opened 1)),

@@ -1,4 +1,4 @@
--- Which voids are kept: at a floor, of a booking's pieces, and how many (01, The booking rule, its last paragraph).
+-- Which voids are kept: at a floor, of a booking's pieces, and how many (01, The booking rule, its last paragraph; 02, K3).
 use mathlib.Core.List.{List, [], _∷_}
 use mathlib.Core.Bool.{Bool, false}
 use Prim.Native.Nat.{ℕ, suc, _+_, _≤_}
@@ -7,10 +7,10 @@ use lib.Dec.{leb, ltb}
 use Rattle.numbers.specs.Case.{pick}
 use Rattle.rule.specs.Voids.{Void}
 
--- "Sweeping to moment T .. drops each void with e < T, no others": the least end of a void that stays at the floor.
--- Shut: only the three laws below know what it is (02, K3 makes it one more).
+-- "a sweep to T drops each void with e at or before T" (02, K3; 01 had e < T): the least end of a void that stays at the floor.
+-- Shut: only the three laws below know what it is.
 unfoldable pub least : ℕ → ℕ
-least floor = floor
+least floor = suc floor
 
 pub least-floor : (floor : ℕ) → floor ≤ least floor
 unfolding least
@@ -28,7 +28,8 @@ least-up floor moment h = omega arith
 abbrev pub stays : (floor e : ℕ) → Bool
 stays floor e = leb (least floor) e
 
--- "A piece of length zero is not kept": a piece is kept if it has a tick, and stays
+-- "A piece of length zero is not kept", and "a booking that starts at the floor keeps no piece in front of it" (02, K3): a piece is kept if it
+-- has a tick, and stays
 abbrev pub kept : (floor s e : ℕ) → Bool
 kept floor s e = pick (ltb s e) (stays floor e) false
 

@@ -42,7 +42,7 @@ Booking M r l m y N zero =
     × Effect M l y o N
 Booking M r l m y N (suc x) = (y ≡ refused (suc x)) × Same M N
 
--- "Sweeping to moment T sets the floor to T and drops each void with e < T, no others"
+-- "Sweeping to moment T sets the floor to T", and "drops each void with e at or before T" (02, K3), "no others"
 pub record Swept (M : Meaning) (moment : ℕ) (N : Meaning) : Type 0 where
   pub settings : N .settings ≡ M .settings
   pub floor : N .floor ≡ moment

@@ -4,12 +4,12 @@ ghost use Prim.Native.Nat.{_≤_};
 ghost use Rattle.rule.specs.Moments.{lastMoment, openEnd};
 ghost use Rattle.rule.specs.Kept.{least, stays, kept};
 
-// The least end of a void that stays at the floor.
+// The least end of a void that stays at the floor: one that ends there has ended.
 pub fn least(floor: u64) -> u64
     requires { ⌜ floor ≤ lastMoment ⌝ }
     ensures { λ r. ⌜ (r ≡ least floor) × (r ≤ openEnd) ⌝ }
 {
-    floor
+    floor + 1
 }
 
 // Whether a void with the end e stays at the floor.

@@ -1,5 +1,5 @@
 -- The history of a link since its opening, and its longest idle stretches (01, The booking rule): "So at any time the
--- voids kept are the maximal idle stretches of the history with end at or after the floor."
+-- voids kept are the maximal idle stretches of the history" that "end after the floor" (02, K3).
 use mathlib.Core.Path.{_≡_}
 use mathlib.Core.Bool.{true}
 use mathlib.Core.List.{List, [], _∷_}
@@ -43,6 +43,6 @@ pub record Longest (F : ℕ) (H : ℕ → ℕ → ℕ) (c s e : ℕ) : Type 0 wh
   pub stops : ¬ (Idle F H c e)
   pub starts : (t : ℕ) → suc t ≡ s → ¬ (Idle F H c t)
 
--- those of a history with end at or after the floor. F: the opening's floor, C: its channels
+-- those of a history that "end after the floor" (02, K3). F: the opening's floor, C: its channels
 abbrev pub Stretches : (F C : ℕ) → List Event → Voids
 Stretches F C past c s e = (c < C) × Longest F (held past) c s e × (stays (floorOf F past) e ≡ true)

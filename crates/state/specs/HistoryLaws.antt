@@ -1,5 +1,5 @@
 -- Demand 2's history: after any orders since an opening, the voids kept are exactly the longest idle stretches of what
--- was accepted that end at or after the floor.
+-- was accepted that end after the floor.
 use mathlib.Core.Path.{_≡_, refl, ap, subst}
 use mathlib.Core.Logic.{inl, _↔_}
 use mathlib.Core.Bool.{true}
@@ -103,7 +103,7 @@ module _ (g : Settings) (F : ℕ) (q : inBounds g ≡ true) (h : F ≤ lastMomen
     pub now-floor : now .state .floor ≡ floorOf F (now .past)
     now-floor = now-lived .level
 
-    -- "So at any time the voids kept are the maximal idle stretches of the history with end at or after the floor."
+    -- "So at any time the voids kept are the maximal idle stretches of the history" that end after the floor (02, K3)
     pub voids-of-history : (c s e : ℕ) → Has (meaning (now .state) .voids) c s e ↔ Stretches F (g .channels) (now .past) c s e
     voids-of-history c s e =
         let u = now .state .tree in

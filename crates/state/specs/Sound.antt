@@ -13,7 +13,7 @@ use Rattle.rule.specs.Key.{startOf, channelOf, perTick}
 use Rattle.shape.specs.Tree.{Tree, size, HeightRule, Balanced, Ord, In, All, same, uses}
 use Rattle.state.specs.State.{State, places}
 
--- "each void on a channel of the link with s < e and e at most the open end", "ends at or after the floor"
+-- "each void on a channel of the link with s < e and e at most the open end"; "the voids of a whole link end after the floor" (02, K3)
 pub record Lawful (channels floor k e : ℕ) : Type 0 where
   pub channel : channelOf k < channels
   pub some : startOf k < e

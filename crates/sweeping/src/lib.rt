@@ -1,4 +1,4 @@
-// Sweeping one link: the voids that end before the moment go (crate clearing), and the floor is set.
+// Sweeping one link: the voids that end at or before the moment go (crate clearing), and the floor is set.
 ghost use mathlib.Core.Path.{_≡_};
 ghost use Prim.Native.Nat.{_≤_};
 ghost use Rattle.rule.specs.Moments.{lastMoment};
