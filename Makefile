@@ -15,17 +15,20 @@ all: session
 session: target/bin/session
 	@target/bin/session < $(FILE)
 
-SOURCES := $(shell find crates -name '*.rt' -o -name '*.antt') crates.txt
+SOURCES := $(shell find crates -name out -prune -o \( -name '*.rt' -o -name '*.antt' \) -print) crates.txt
 
+# rt keeps what it builds in a crate's out/: a program that was run, a static library
 target/bin/session: $(SOURCES)
-	@mkdir -p target
-	@rt check session > target/session.log 2>&1 || { tail -5 target/session.log; exit 1; }
+	@mkdir -p target/bin
+	@(cd crates/session && rt run < stdin) > target/session.log 2>&1 || { tail -5 target/session.log; exit 1; }
+	@cp crates/session/out/session $@
 
 lib: target/staticlib/libdoor.a
 
-target/staticlib/libdoor.a: $(SOURCES)
-	@mkdir -p target
-	@rt staticlib door > target/lib.log 2>&1 || { tail -5 target/lib.log; exit 1; }
+target/staticlib/lib%.a: $(SOURCES)
+	@mkdir -p target/staticlib
+	@(cd crates/$* && rt lib) > target/lib-$*.log 2>&1 || { tail -5 target/lib-$*.log; exit 1; }
+	@cp crates/$*/out/lib$*.a $@
 
 example: lib
 	@cc -std=c99 -Wall -Wextra -Werror -Iinclude examples/c/link.c target/staticlib/libdoor.a -o target/link
@@ -43,17 +46,12 @@ picture:
 
 # the tree's operations in ns, through its archive (docs/BENCHMARKS.md)
 .PHONY: bench-tree
-bench-tree:
-	@rt staticlib tree_archive > target/bench-tree.log 2>&1 || { tail -5 target/bench-tree.log; exit 1; }
+bench-tree: target/staticlib/libtree_archive.a
 	@rustc -O --edition 2021 -L target/staticlib -l static=tree_archive bench/tree/main.rs -o target/bench-tree
 	@target/bench-tree
 
-# the link's own booking and sweep, for the benchmarks alone: no part of `make lib`
-target/staticlib/liblink_archive.a: $(SOURCES)
-	@mkdir -p target
-	@rt staticlib link_archive > target/bench-link.log 2>&1 || { tail -5 target/bench-link.log; exit 1; }
-
-# the link's check, sweep and run, through its archives (docs/BENCHMARKS.md)
+# the link's check, sweep and run, through its archives (docs/BENCHMARKS.md); link_archive has the link's own booking and sweep, for the
+# benchmarks alone: it is no part of `make lib`
 .PHONY: bench-link
 bench-link: lib target/staticlib/liblink_archive.a
 	@rustc -O --edition 2021 -L target/staticlib -l static=door -l static=link_archive bench/link/main.rs -o target/bench-link

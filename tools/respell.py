@@ -66,7 +66,7 @@ def declared():
                 names.update(found.group(2).split())
             for group in BOUND.findall(line):
                 names.update(group.split())
-    return {n for n in names if is_odd(n)}
+    return {n for n in names if is_odd(n)} - LEMMAS_THERE
 
 
 def respell_code(text, names, dotted_too):

@@ -1,5 +1,5 @@
 -- A booking on a whole link, way out by way out: refused by its code, nothing fits, no room for two pieces, booked.
-use mathlib.Core.Path.{◌≡◌, refl, sym, ap, ◌∙◌}
+use mathlib.Core.Path.{◌≡◌, refl, sym, subst, ap, ◌∙◌}
 use mathlib.Core.Bool.{Bool, true, false, not, false≢true}
 use mathlib.Core.List.{List}
 use Prim.Native.Nat.{ℕ, zero, suc, ◌+◌, ◌≤◌}
@@ -102,7 +102,7 @@ module _ (m : List ℕ) (r l p floor lines code : ℕ) (ef : floor ≡ word m 4)
     module _ (x : Taken) (g : Seeks r h p x m) where
       is : (s : State) → Holds m s → x ≡ taken_of x (sought r l p s)
       unfolding sought
-      is s H = rw (eh s.settings) at (g s H)
+      is s H = subst (λ (y : ℕ). x ≡ taken_of x (seek s.tree y (starts s.settings.delays r y p))) (eh s.settings) (g s H)
 
       acts : (s : State) → Holds m s → act s (booking r l p) ≡ book_found s l (sought r l p s)
       unfolding sought

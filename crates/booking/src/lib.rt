@@ -1,5 +1,7 @@
 // Booking on one link: the codes that need no search, the void found (crate seeking) taken apart (crate taking), the answer.
 // The starts tried, the room and the pieces are proved there; here they come together.
+#![tactic(auto)]
+
 ghost use Rattle.std.specs.Prelude.{◌≡◌, ◌≤◌};
 ghost use Rattle.rule.specs.Moments.{last_moment};
 ghost use Rattle.rule.specs.Settings.{longest};

@@ -5,8 +5,6 @@ use mathlib.Core.Bool.{Bool, true, false, not}
 use mathlib.Core.List.{List, [], ◌∷◌}
 use Prim.Native.Nat.{ℕ, zero, suc, ◌+◌, ◌*◌, ◌≤◌, ◌<◌}
 use native.Mathlib.Omega.{arith}
-use types.Run.{OneOf, miss}
-use denote.Enum.Declared.{tag_of}
 use lib.Dec.{ltb}
 use lib.ListN.{length, take}
 use Rattle.numbers.specs.Case.{pick, case_le}
@@ -15,7 +13,6 @@ use Rattle.rule.specs.Settings.{Settings, most_lines, settings, in_bounds}
 use Rattle.rule.specs.SettingsLaws.{in_bounds_lem}
 use Rattle.order.specs.declared.Record.{Record}
 use Rattle.order.specs.declared.Record.TheVariants.{Opening as Read, Booking, Sweep, Refused}
-use Rattle.order.specs.contracts.Record.{the_type}
 use Rattle.order.specs.Records.{Reading, unread, opening, order, Opening, delays_at, reading, opening_only}
 use Rattle.order.specs.Read.{meant, Narrow, ReadsOpening}
 use Rattle.order.specs.Delays.{delays_length}
@@ -78,9 +75,9 @@ module _ (s : List ℕ) (r : Record) (x : ReadsOpening s r) (c l p f u : ℕ) (q
           let one : code ≡ 1 = o.answer ∙ codes (settings room c p (take l ds)) (length m) (λ e. h (o.answer ∙ e)) in
           only_opening room (reading s) _ m m' (rw (is_opening, same_code, one) (refl, o.refused one))
 
--- any other record: its tag is one of the others
-pub no_opening : (s : List ℕ) (r : Record) → ReadsOpening s r → (room : ℕ) (m : List ℕ) → OneOf (1 ∷ 2 ∷ 3 ∷ []) (tag_of the_type r) → Opens room s (record { code = 11; used = 0 }) m m
-no_opening s (Read c l p f u) x room m n = absurd (miss (1 ∷ 2 ∷ 3 ∷ []) 0 tt n)
+-- any other record: it is no opening
+pub no_opening : (s : List ℕ) (r : Record) → ReadsOpening s r → (room : ℕ) (m : List ℕ) → ((c l p f u : ℕ) → r ≡ Read c l p f u → ⊥) → Opens room s (record { code = 11; used = 0 }) m m
+no_opening s (Read c l p f u) x room m n = absurd (n c l p f u refl)
 no_opening s (Booking a b l u) x room m n = only_opening room (reading s) _ m m (rw (sym x.is) (refl, refl))
 no_opening s (Sweep a u) x room m n = only_opening room (reading s) _ m m (rw (sym x.is) (refl, refl))
 no_opening s (Refused k) x room m n = only_opening room (reading s) _ m m (rw (sym x.is, x.narrow) (refl, refl))

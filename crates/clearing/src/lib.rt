@@ -1,5 +1,7 @@
 // Clearing a link: the voids that end before a bound go in one pass over the tree (shape's specs/Clear.antt).
 // A part that has none is not looked into; what is left of a node's two sides is joined by that node, or goes where the node was.
+#![tactic(auto)]
+
 ghost use Rattle.std.specs.Prelude.{◌≡◌};
 ghost use Rattle.clearing.specs.Clears.{Clearable, Cleans, Lasts, Clears};
 
@@ -10,7 +12,7 @@ use numbers::words::{get, put};
 // is left. The number is lent, not returned: what returns fits a register (docs/DECISIONS.md).
 fn below(mem: &mut [u8], s: usize, bound: u64, spare: &mut u64) -> bool
     requires { Clearable mem.old s spare.old }
-    ensures* { λ gone. ⌜ Cleans bound s spare.old (record { gone = gone; spare = spare.new }) mem.old mem.new ⌝ }
+    ensures { Cleans bound s spare.old (record { gone = result; spare = spare.new }) mem.old mem.new }
 {
     let n = node::load(mem, s);
     if bound <= n.low {

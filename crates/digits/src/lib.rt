@@ -1,4 +1,6 @@
 // Numbers in a record, most significant byte first: one function for every width.
+#![tactic(auto)]
+
 ghost use Rattle.std.specs.Prelude.{◌≡◌, ◌+◌, ◌≤◌, ◌*◌, ◌<◌, ◌^◌, length};
 ghost use Rattle.digits.specs.Digits.{digits, field};
 

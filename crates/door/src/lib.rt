@@ -1,5 +1,7 @@
 // The doors: the four public calls as C sees them, over one lent memory. Each is the call of crate `calls`, the run that of
 // crate `running`; the tally, which those take and give back by value, is taken here by reference.
+#![tactic(auto)]
+
 ghost use Rattle.door.specs.Doors.{ActsAt, RunsAt};
 ghost use Rattle.calls.specs.Opens.{Opens};
 ghost use Rattle.calls.specs.Calls.{Tells};

@@ -1,5 +1,7 @@
 // One node of a tree that may be spoiled: whether it is a leaf that comes next, or sums up two others (specs/Inspect.antt).
 // Nothing here follows a link; the walk from node to node is crate survey.
+#![tactic(auto)]
+
 ghost use Rattle.std.specs.Prelude.{◌≡◌, ◌≤◌, ◌<◌, length};
 ghost use Rattle.rule.specs.Moments.{last_moment};
 ghost use Rattle.state.specs.Sound.{Lawful};

@@ -1,5 +1,7 @@
 // Two trees of any heights in lent memory, joined by a node (shape's Clear).
 // What is left of a node's two sides after a sweep need not be of like heights: a balance alone is not enough.
+#![tactic(auto)]
+
 ghost use Rattle.turning.specs.Turns.{Both};
 ghost use Rattle.joining.specs.Joins.{Hangs, Joins};
 

@@ -1,5 +1,7 @@
 // The lines of 01's session (A session in full), written into a text of bytes. Full, the text goes to standard output and
 // begins anew. Each function takes the place to write at and gives the place after what it wrote.
+#![tactic(auto)]
+
 ghost use Rattle.std.specs.Prelude.{◌+◌, ◌≤◌, length};
 
 use rule::answer::Answer;

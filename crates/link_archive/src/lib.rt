@@ -1,5 +1,7 @@
 // The link's own booking, sweeping and whole-link check as an archive, for the benchmark (bench/link) only: no record, no tally.
 // No door: these ask what the link's functions ask and promise what those promise, and are not in `make lib`.
+#![tactic(auto)]
+
 ghost use Rattle.std.specs.Prelude.{◌≡◌, ◌≤◌};
 ghost use Rattle.rule.specs.Moments.{last_moment};
 ghost use Rattle.rule.specs.Settings.{longest};

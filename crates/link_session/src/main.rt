@@ -1,5 +1,7 @@
 // 01's session on typed orders: the link's own opening, booking and sweeping, with no record between. It prints the same
 // lines as crate `session` does from the bytes.
+#![tactic(auto)]
+
 ghost use Rattle.std.specs.Prelude.{◌+◌, ◌≤◌, length};
 ghost use Rattle.rule.specs.Moments.{last_moment};
 ghost use Rattle.rule.specs.Settings.{longest};

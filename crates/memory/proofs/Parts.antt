@@ -1,6 +1,6 @@
 -- The laws of a link in the middle of a step: what a word of the header, a change of the tree and a spare place more or less
 -- leave of it; how a step begins and how it ends.
-use mathlib.Core.Path.{◌≡◌, refl, sym, ap, ◌∙◌}
+use mathlib.Core.Path.{◌≡◌, refl, sym, subst, ap, ◌∙◌}
 use mathlib.Core.Logic.{inl, inr}
 use mathlib.Core.Bool.{true, false}
 use mathlib.Core.List.{List, [], ◌∷◌}
@@ -196,7 +196,7 @@ module _ (m0 m : List ℕ) (n : ℕ) (h : List ℕ) (t : Tree) where
             stands = stands_frame g.kept root (λ z u. off (z / 8) (omega arith)) Q.stands;
             spare = (rw (ek, w) at g.left, g.right, spares_frame ps M m' (λ z b u. node_kept _ M m' g.kept z b (off (z / 8) (omega arith))) Q.spare);
             once = λ z. elim (ℕ_discrete z p) [
-              | yes e ↦ rw e (omega (arith, free, same_self p, below_is p n hi, same_other p 0 (omega arith)))
+              | yes e ↦ let At : ℕ → Type 0 = λ y. same y 0 + uses y t + (same y p + among y ps) ≤ below y n in subst At (sym e) (omega (arith, free, same_self p, below_is p n hi, same_other p 0 (omega arith)))
               | no d ↦ omega (arith, P.once z, same_other z p d)
             ];
             past = past_then Q.past (past_kept _ M m' n g.kept (λ z l. same_other (z / 8) p (omega arith)));

@@ -1,5 +1,7 @@
 // A link's state in lent memory: header, tree, spare places; the three steps that change it.
 // Above this crate nobody speaks of places.
+#![tactic(auto)]
+
 ghost use Rattle.std.specs.Prelude.{◌≡◌, ◌+◌, ◌*◌, ◌≤◌, ◌<◌};
 ghost use Rattle.numbers.specs.Words.{word, store};
 ghost use Rattle.rule.specs.Settings.{most_room};

@@ -1,5 +1,7 @@
 // A node of the tree in lent memory: its words, after the header (docs/ARCHITECTURE.md).
 // Above this crate nobody speaks of a node's words: only of the node at a seat.
+#![tactic(auto)]
+
 ghost use Rattle.std.specs.Prelude.{◌≡◌, ◌+◌, ◌*◌, ◌<◌};
 ghost use Rattle.shape.specs.Side.{near, far};
 ghost use Rattle.node.specs.Layout.{half_word, Within, Fits, node_at, leaf_node, with_sums, sums_saved, Saved, Copied};
@@ -25,7 +27,7 @@ pub const PLACE_WORDS: u64 = 8;
 pub const HALF_WORD: u64 = 4294967296;
 
 // A node's height, its sums, and the place of its children, known by its left seat (of a spare place: the number of the next one).
-#[derive(Drop)]
+#[derive(Clone, Copy)]
 pub struct Node {
     pub height: u64,
     pub lo: u64,

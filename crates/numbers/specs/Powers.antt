@@ -1,6 +1,6 @@
 -- The whole part of log2 m, by powers of two (01: "The tree and its visits").
 -- The code works it out from the leading zeros of m; this is what that comes to.
-use Rattle.std.specs.Prelude.{◌≡◌, ℕ, ◌+◌, ◌*◌, ◌^◌, ◌≤◌, ◌<◌}
+use Rattle.std.specs.Prelude.{◌≡◌, ℕ, ◌+◌, ◌^◌, ◌≤◌, ◌<◌}
 use Rattle.std.proofs.Common.{inl, inr, arith, pow_mono}
 use Rattle.numbers.specs.Case.{case_le}
 

@@ -1,5 +1,7 @@
 // Numbers: words of 64 bits in lent memory, the larger of two, the whole part of log2.
 // The lowest crate: nobody above it speaks of a byte's place inside a word.
+#![tactic(auto)]
+
 pub mod pairs;
 pub mod powers;
 pub mod words;

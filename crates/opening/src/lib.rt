@@ -1,4 +1,6 @@
 // Opening a link: the table of bounds, the need, then a link of one channel and a void more for each further channel.
+#![tactic(auto)]
+
 ghost use Rattle.std.specs.Prelude.{◌≡◌, ◌≤◌};
 ghost use Rattle.rule.specs.Moments.{last_moment};
 ghost use Rattle.rule.specs.Settings.{settings};
@@ -25,7 +27,7 @@ pub fn open(mem: &mut [u8], room: u64, channels: u64, leap: u64, floor: u64, del
     requires { floor ≤ last_moment }
     ensures { Opens (settings room channels leap delays.now) floor mem.old mem.new result }
 {
-    if !ruling::bounds::in_bounds_lem(room, channels, leap, delays) {
+    if !ruling::bounds::in_bounds(room, channels, leap, delays) {
         return 1;
     }
     if mem.len() < memory::need(room) {

@@ -1,5 +1,7 @@
 // The record reader: the bytes at the start of a buffer, as an order or a refusal.
 // Every byte string is answered; nothing here knows a link.
+#![tactic(auto)]
+
 ghost use Rattle.std.specs.Prelude.{◌≡◌, ◌+◌, ◌*◌, ◌^◌, ◌≤◌, ◌<◌, length, take};
 ghost use Rattle.order.specs.Records.{delays_at, opening_of, booking_of, compact_of, sweep_of};
 ghost use Rattle.order.specs.Read.{meant, Narrow, Reads, ReadsOpening, delay_of};

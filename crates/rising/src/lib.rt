@@ -1,5 +1,7 @@
 // The way up again, after a change at its end: summed up or balanced node after node, as far as anything changes.
 // Which change it is only the contracts say (specs/Rises.antt): the code is the same for all three.
+#![tactic(auto)]
+
 ghost use Rattle.rising.specs.Rises.{Settled, Settles, Risen, Rises};
 
 use node::PLACE_WORDS;

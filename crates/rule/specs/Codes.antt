@@ -1,6 +1,6 @@
 -- The codes 3 to 10 in their order (01, What comes back): a table for bookings, one for what a choice comes to, one
 -- for sweeps. The code is that of the first row whose test holds, and 0 if none does.
-use Rattle.std.specs.Prelude.{List, [], ◌∷◌, Bool, true, false, ℕ, ◌+◌, ◌/◌, ◌^◌, leb, ltb, eqb, length}
+use Rattle.std.specs.Prelude.{List, [], ◌∷◌, Bool, false, ℕ, ◌+◌, ◌/◌, ◌^◌, leb, ltb, eqb, length}
 use Rattle.numbers.specs.Case.{pick}
 use Rattle.rule.specs.Moments.{last_moment}
 use Rattle.rule.specs.Settings.{Settings}

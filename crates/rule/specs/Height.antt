@@ -1,5 +1,5 @@
 -- The height allowed: "with m leaves the height, counted in edges, is at most twice the whole part of log2 m" (01).
-use Rattle.std.specs.Prelude.{◌≡◌, ℕ, ◌*◌, ◌≤◌}
+use Rattle.std.specs.Prelude.{◌≡◌, ℕ, ◌*◌}
 use Rattle.std.proofs.Common.{arith}
 use Rattle.numbers.specs.Powers.{Log2, log2_one}
 

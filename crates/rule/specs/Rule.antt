@@ -1,7 +1,6 @@
 -- The rule: what an order is answered, and what it leaves (01, The booking rule; What comes back).
 -- `Rule M order reply N` relates what a link means before and after. No tree and no bytes are named here.
 use Rattle.std.specs.Prelude.{◌≡◌, ◌⊎◌, ◌↔◌, true, ℕ, zero, suc, length}
-use Rattle.rule.specs.Settings.{Settings}
 use Rattle.rule.specs.Fit.{hold, free}
 use Rattle.rule.specs.Starts.{starts}
 use Rattle.rule.specs.Voids.{Voids, Has, Meaning, Same}

@@ -1,9 +1,9 @@
 -- The table of bounds, row by row: the one test holds exactly if each row does.
-use Rattle.std.specs.Prelude.{◌≡◌, refl, List, [], ◌∷◌, Bool, true, false, ℕ, zero, suc, ◌≤◌, ◌<◌, length, get_or}
+use Rattle.std.specs.Prelude.{◌≡◌, refl, List, [], ◌∷◌, Bool, true, false, ℕ, zero, suc, ◌≤◌, length, get_or}
 use Rattle.std.proofs.Common.{inl, inr, arith}
 use Rattle.std.proofs.lemmas.Bool.{false≢true}
 use Rattle.numbers.specs.Case.{pick, case_le}
-use Rattle.rule.specs.Settings.{Settings, most_channels, most_room, most_lines, longest, every, between, rising, in_bounds}
+use Rattle.rule.specs.Settings.{Settings, most_channels, most_room, most_lines, longest, between, rising, in_bounds}
 
 pub between_yes : (low high x : ℕ) → between low high x ≡ true → (low ≤ x) × (x ≤ high)
 between_yes low high x = elim (case_le low x) [

@@ -45,7 +45,7 @@ fn rising(delays: &[u64]) -> bool
     true
 }
 
-pub fn in_bounds_lem(room: u64, channels: u64, leap: u64, delays: &[u64]) -> bool
+pub fn in_bounds(room: u64, channels: u64, leap: u64, delays: &[u64]) -> bool
     ensures { result ≡ in_bounds (settings room channels leap delays.now) }
 {
     if !between(1, MOST_CHANNELS, channels) {

@@ -1,5 +1,7 @@
 // A run of records, the tally by value, seven numbers of answer for each (specs/Runs.antt, `Runs`). The memory is checked
 // once, at the start; nothing is asked of the caller. Crate `calls` acts on one record by it, crate `door` exports it.
+#![tactic(auto)]
+
 ghost use Rattle.std.specs.Prelude.{◌≡◌};
 ghost use Rattle.running.specs.Runs.{Runs};
 

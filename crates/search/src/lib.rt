@@ -1,5 +1,7 @@
 // The search of voids in lent memory (01, The tree and its visits): the walk down from the root, the descent from the
 // deepest marked node, both counting their visits as they go.
+#![tactic(auto)]
+
 ghost use Rattle.std.specs.Prelude.{◌≡◌, true, false, ◌*◌, ◌≤◌, length};
 ghost use Rattle.numbers.specs.Case.{pick};
 ghost use Rattle.rule.specs.Key.{per_tick};

@@ -1,5 +1,7 @@
 // The search over the starts tried of a booking, in their order, up to the first that has a fit.
 // It changes nothing; what it finds is answered and taken apart in the crates booking and taking.
+#![tactic(auto)]
+
 ghost use Rattle.std.specs.Prelude.{◌≡◌, true, false, ◌+◌, ◌≤◌, length};
 ghost use Rattle.rule.specs.Moments.{last_moment};
 ghost use Rattle.rule.specs.Settings.{longest};

@@ -1,5 +1,7 @@
 // The program (01, A session in full): reads at most 32,768 bytes from standard input, an OL first, with room 256, and
 // prints what each record is answered. The least record has eight bytes, so 4,096 answers are room for all of them.
+#![tactic(auto)]
+
 ghost use Rattle.std.specs.Prelude.{◌+◌, ◌*◌, ◌≤◌, length};
 
 use rule::answer::Answer;

@@ -1,5 +1,7 @@
 // The header: its numbers in bounds, its delays rising, its other words 0 (specs/Settled.antt).
 // It is the first part of the whole-link check (crate whole), and the other two count on it.
+#![tactic(auto)]
+
 ghost use Rattle.std.specs.Prelude.{◌≡◌, ◌+◌, ◌*◌, ◌≤◌, ◌<◌, length};
 ghost use Rattle.rule.specs.Settings.{most_lines, rising};
 ghost use Rattle.settled.specs.Says.{Says};

@@ -1,5 +1,7 @@
 // An answer as seven numbers in a slice, written and read (`numbers_of`, rule/specs/Answer.antt).
 // Nothing here knows a link or a record.
+#![tactic(auto)]
+
 ghost use Rattle.std.specs.Prelude.{◌≡◌, ◌+◌, ◌≤◌, length};
 ghost use Rattle.std.proofs.lemmas.List.Edits.{sets};
 ghost use Rattle.rule.specs.Answer.{numbers_of};

@@ -1,11 +1,11 @@
 -- What `hang` and `join` come to: the leaves of both trees, one after the other, on the same places, and balanced whatever their heights were;
 -- and `clear` and `freed`, case by case.
-use Rattle.std.specs.Prelude.{◌≡◌, refl, Bool, true, false, List, [], ◌++◌, ℕ, ◌+◌, ◌*◌, ◌≤◌, ◌<◌, max}
-use Rattle.std.proofs.Common.{sym, ◌∙◌, inl, inr, arith}
+use Rattle.std.specs.Prelude.{◌≡◌, refl, Bool, true, false, [], ◌++◌, ℕ, ◌+◌, ◌≤◌, ◌<◌, max}
+use Rattle.std.proofs.Common.{sym, inl, inr, arith}
 use Rattle.numbers.specs.Case.{case_le}
 use Rattle.shape.specs.Tree.{Tree, leaf, node, height, low, leaves, weight, All, Balanced}
 use Rattle.shape.specs.Side.{near, far, over}
-use Rattle.shape.specs.SideLaws.{joined, joined_assoc, joined_swap, leaves_over, height_over, weight_over, all_over, over_all, over_even}
+use Rattle.shape.specs.SideLaws.{joined, joined_assoc, leaves_over, height_over, all_over, over_all, over_even}
 use Rattle.shape.specs.Arrange.{balance}
 use Rattle.shape.specs.BalanceLaws.{balance_over}
 use Rattle.shape.specs.HangLaws.{hang_over, hang_side, weight_hang, height_hang, join_left, join_right}

@@ -21,46 +21,49 @@ joined_nil false xs = append-nil xs
 
 -- seen from the other side
 pub joined_swap : (left : Bool) (xs ys : List Item) → joined (not left) ys xs ≡ joined left xs ys
-joined_swap left xs ys = elim left [ true ↦ refl | false ↦ refl ]
+joined_swap true xs ys = refl
+joined_swap false xs ys = refl
 
 pub over_swap : (left : Bool) (p : ℕ) (x y : Tree) → over (not left) p y x ≡ over left p x y
-over_swap left p x y = elim left [ true ↦ refl | false ↦ refl ]
+over_swap true p x y = refl
+over_swap false p x y = refl
 
 -- the least key, where one child has another with the same least key in its place
 pub lo_over : (left : Bool) (p : ℕ) (x y u : Tree) → lo u ≡ lo x → lo (over left p u y) ≡ lo (over left p x y)
-lo_over left p x y u q = elim left [ true ↦ q | false ↦ refl ]
+lo_over true p x y u q = q
+lo_over false p x y u q = refl
 
 module _ (left : Bool) (p : ℕ) (x y : Tree) where
   pub leaves_over : leaves (over left p x y) ≡ joined left (leaves x) (leaves y)
-  leaves_over = elim left [ true ↦ refl | false ↦ refl ]
+  leaves_over = elim left as (λ (s : Bool). leaves (over s p x y) ≡ joined s (leaves x) (leaves y)) [ true ↦ refl | false ↦ refl ]
 
   pub place_over : place (over left p x y) ≡ p
-  place_over = elim left [ true ↦ refl | false ↦ refl ]
+  place_over = elim left as (λ (s : Bool). place (over s p x y) ≡ p) [ true ↦ refl | false ↦ refl ]
 
   pub height_over : height (over left p x y) ≡ max (height x) (height y) + 1
-  height_over = elim left [ true ↦ refl | false ↦ omega arith ]
+  height_over = elim left as (λ (s : Bool). height (over s p x y) ≡ max (height x) (height y) + 1) [ true ↦ refl | false ↦ omega arith ]
 
   pub size_over : size (over left p x y) ≡ size x + size y
-  size_over = elim left [ true ↦ refl | false ↦ omega arith ]
+  size_over = elim left as (λ (s : Bool). size (over s p x y) ≡ size x + size y) [ true ↦ refl | false ↦ omega arith ]
 
   pub top_over : top (over left p x y) ≡ max (top x) (top y)
-  top_over = elim left [ true ↦ refl | false ↦ omega arith ]
+  top_over = elim left as (λ (s : Bool). top (over s p x y) ≡ max (top x) (top y)) [ true ↦ refl | false ↦ omega arith ]
 
   pub low_over : low (over left p x y) ≡ min (low x) (low y)
-  low_over = elim left [ true ↦ refl | false ↦ omega arith ]
+  low_over = elim left as (λ (s : Bool). low (over s p x y) ≡ min (low x) (low y)) [ true ↦ refl | false ↦ omega arith ]
 
   pub weight_over : (w : (k e : ℕ) → ℕ) (v : ℕ → ℕ) → weight w v (over left p x y) ≡ v p + weight w v x + weight w v y
-  weight_over w v = elim left [ true ↦ refl | false ↦ omega arith ]
+  weight_over w v = elim left as (λ (s : Bool). weight w v (over s p x y) ≡ v p + weight w v x + weight w v y) [ true ↦ refl | false ↦ omega arith ]
 
   -- what holds of all leaves, taken apart and put together
   pub all_over : (P : (k e : ℕ) → Type 0) → All P (over left p x y) → All P x × All P y
-  all_over P = elim left [ true ↦ λ h. h | false ↦ λ h. (h.1, h.0) ]
+  all_over P = elim left as (λ (s : Bool). All P (over s p x y) → All P x × All P y) [ true ↦ λ h. h | false ↦ λ h. (h.1, h.0) ]
 
   pub over_all : (P : (k e : ℕ) → Type 0) → All P x → All P y → All P (over left p x y)
-  over_all P h i = elim left [ true ↦ (h, i) | false ↦ (i, h) ]
+  over_all P h i = elim left as (λ (s : Bool). All P (over s p x y)) [ true ↦ (h, i) | false ↦ (i, h) ]
 
   pub over_even : Balanced x → Balanced y → height x ≤ height y + 1 → height y ≤ height x + 1 → Balanced (over left p x y)
-  over_even h i u v = elim left [ true ↦ (h, i, u, v) | false ↦ (i, h, v, u) ]
+  over_even h i u v = elim left as (λ (s : Bool). Balanced (over s p x y)) [ true ↦ (h, i, u, v) | false ↦ (i, h, v, u) ]
 
 -- ---- the two children of a node, the one on the side named first
 module _ (u : (k e : ℕ) → ℕ) (v : ℕ → ℕ) where

@@ -6,8 +6,6 @@ use mathlib.Core.List.{List, [], ◌∷◌}
 use Prim.Native.Nat.{ℕ, zero, suc, ◌+◌, ◌*◌, ◌-◌, ◌≤◌, ◌<◌}
 use native.Mathlib.Omega.{arith}
 use borrow.Author.Tests.{ne_eqb}
-use types.Run.{OneOf, miss}
-use denote.Enum.Declared.{tag_of}
 use lib.Dec.{eqb}
 use lib.ListN.{length, get_or}
 use Rattle.numbers.specs.Case.{pick}
@@ -24,7 +22,6 @@ use Rattle.rule.specs.Codes.{booking_code, sweep_code, chosen_reply, too_many}
 use Rattle.tally.specs.Counts.{row_of, row_at, raised}
 use Rattle.order.specs.declared.Record.{Record}
 use Rattle.order.specs.declared.Record.TheVariants.{Opening, Booking, Sweep, Refused}
-use Rattle.order.specs.contracts.Record.{the_type}
 use Rattle.order.specs.Records.{Reading, order, reading}
 use Rattle.order.specs.Read.{meant, Narrow, Reads}
 use Rattle.shape.specs.Tree.{size}
@@ -114,9 +111,10 @@ idle_steps : (s : State) (t : Tally) (m : List ℕ) → Sound s → After m m s 
 unfolding raised
 idle_steps s t m o h y e = rw e (record { numbers = refl; used = refl; tally = refl; after = h; sound = o })
 
--- any other record: its tag is neither a booking's nor a sweep's
-pub no_order : (bytes : List ℕ) (r : Record) → Reads bytes r → OneOf (0 ∷ 3 ∷ []) (tag_of the_type r) → (m : List ℕ) → Steps bytes idle m m
-no_order bytes (Opening c l p f u) x n m s o h t = idle_steps s t m o (after_none h) (reading bytes) (rw (sym x.is))
-no_order bytes (Booking a b l u) x n m s o h t = absurd (miss (0 ∷ 3 ∷ []) 1 tt n)
-no_order bytes (Sweep a u) x n m s o h t = absurd (miss (0 ∷ 3 ∷ []) 2 tt n)
-no_order bytes (Refused k) x n m s o h t = idle_steps s t m o (after_none h) (reading bytes) (rw (sym x.is, x.narrow))
+-- any other record: it is neither a booking nor a sweep
+pub no_order : (bytes : List ℕ) (r : Record) → Reads bytes r → ((a b l u : ℕ) → r ≡ Booking a b l u → ⊥) → ((a u : ℕ) → r ≡ Sweep a u → ⊥)
+    → (m : List ℕ) → Steps bytes idle m m
+no_order bytes (Opening c l p f u) x n k m s o h t = idle_steps s t m o (after_none h) (reading bytes) (rw (sym x.is))
+no_order bytes (Booking a b l u) x n k m s o h t = absurd (n a b l u refl)
+no_order bytes (Sweep a u) x n k m s o h t = absurd (k a u refl)
+no_order bytes (Refused i) x n k m s o h t = idle_steps s t m o (after_none h) (reading bytes) (rw (sym x.is, x.narrow))

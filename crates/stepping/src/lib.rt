@@ -1,5 +1,7 @@
 // One record acted on, on a whole link (specs/Steps.antt): what is read decides between the booking, the sweep and a refusal.
 // That the link is whole its caller has checked, once for all records of a run.
+#![tactic(auto)]
+
 ghost use Rattle.memory.specs.Holds.{Whole};
 ghost use Rattle.stepping.specs.Steps.{Steps};
 

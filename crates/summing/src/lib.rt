@@ -1,5 +1,7 @@
 // A node over two others in lent memory: its sums, written with it or taken anew.
 // What the sums are is node's specs/Layout.antt.
+#![tactic(auto)]
+
 ghost use Rattle.std.specs.Prelude.{◌≡◌, true, ◌↔◌, ◌-◌, ◌<◌};
 ghost use Rattle.shape.specs.Side.{near, far};
 ghost use Rattle.node.specs.Layout.{half_word, over_node, summed_node, SameSums, Over, Mendable, Summable, Sums};

@@ -1,6 +1,8 @@
 // The walk over a tree that may be spoiled: a survey of its nodes, from left to right, of any memory whatever (specs/Survey.antt, specs/Planted.antt).
 // A budget of visits falls by one at each node and a child is lower than its parent, so that the survey ends, and soon, in a
 // hostile memory too: a whole tree of m leaves has 2 * m - 1 nodes, and no more are looked at.
+#![tactic(auto)]
+
 ghost use Rattle.std.specs.Prelude.{◌≡◌, ℕ, ◌+◌, ◌*◌, ◌≤◌, ◌<◌, length, get_or};
 ghost use Rattle.rule.specs.Moments.{open_end};
 ghost use Rattle.node.specs.Layout.{most_places};

@@ -1,4 +1,6 @@
 // Sweeping one link: the voids that end at or before the moment go (crate clearing), and the floor is set.
+#![tactic(auto)]
+
 ghost use Rattle.std.specs.Prelude.{◌≡◌, ◌≤◌};
 ghost use Rattle.rule.specs.Moments.{last_moment};
 ghost use Rattle.state.specs.State.{State};

@@ -1,5 +1,7 @@
 // Taking a void: it is replaced by its pieces, if they are kept; or refused under 8, if it leaves two and the room is full.
 // Which void is taken, and from when, is the crate seeking's.
+#![tactic(auto)]
+
 ghost use Rattle.std.specs.Prelude.{◌≡◌, ◌≤◌, ◌<◌};
 ghost use Rattle.rule.specs.Moments.{last_moment};
 ghost use Rattle.state.specs.State.{State};

@@ -1,9 +1,11 @@
 // The tally by value, the row of an answer's code, and the raising of one of its counts (specs/Counts.antt).
+#![tactic(auto)]
+
 ghost use Rattle.std.specs.Prelude.{◌≡◌};
 ghost use Rattle.tally.specs.Counts.{row_at, up, raised};
 
 #[repr(C)]
-#[derive(Drop)]
+#[derive(Clone, Copy)]
 pub struct Tally {
     pub bookings: u64,
     pub sweeps: u64,

@@ -1,5 +1,7 @@
 // The way down a tree in lent memory, noted seat by seat: to the leaf that a key leads to.
 // Whoever changes the leaf goes up again by it.
+#![tactic(auto)]
+
 ghost use Rattle.std.specs.Prelude.{◌≤◌, length};
 ghost use Rattle.node.specs.Paths.{longest_way};
 ghost use Rattle.tracing.specs.Alone.{Alone};

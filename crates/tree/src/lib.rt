@@ -1,5 +1,7 @@
 // The tree of voids in lent memory: insert, remove, set an end (the arrangement is that of shape's Arrange).
 // A change goes down by a way that it notes (tracing), and up again as far as anything changes (rising).
+#![tactic(auto)]
+
 ghost use Rattle.std.specs.Prelude.{◌≤◌};
 ghost use Rattle.node.specs.Layout.{node_at};
 ghost use Rattle.tracing.specs.Alone.{Alone};

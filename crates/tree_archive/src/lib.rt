@@ -1,4 +1,6 @@
 // The tree's functions as an archive, for the benchmark (bench/tree): each asks what the tree's own function asks.
+#![tactic(auto)]
+
 ghost use Rattle.std.specs.Prelude.{◌≤◌};
 ghost use Rattle.rule.specs.Moments.{last_moment};
 ghost use Rattle.node.specs.Layout.{Within, node_at};

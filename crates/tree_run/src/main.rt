@@ -1,5 +1,7 @@
 // The tree at work: builds a tree of 2,000 voids by a fixed rule, searches it, takes voids out and puts others in their
 // places, and prints a digest of every answer. What is compared is the compiled code; that it is safe is proved.
+#![tactic(auto)]
+
 ghost use Rattle.std.specs.Prelude.{◌≤◌, ◌<◌, length};
 ghost use Rattle.node.specs.Layout.{root_seat, Within};
 ghost use Rattle.node.specs.Paths.{longest_way};

@@ -1,5 +1,7 @@
 // Turns and balances in lent memory: a node is put over the two trees at a place, turned where one is too high (shape's Arrange).
 // Left and right are one parameter, so that one function serves both sides. A place is known by its left seat.
+#![tactic(auto)]
+
 ghost use Rattle.std.specs.Prelude.{◌+◌, ◌*◌, ◌≤◌};
 ghost use Rattle.shape.specs.Side.{near, far};
 ghost use Rattle.node.specs.Layout.{node_at};
