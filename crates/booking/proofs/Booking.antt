@@ -21,7 +21,7 @@ use Rattle.state.specs.State.{State}
 use Rattle.state.specs.Sound.{Sound}
 use Rattle.state.specs.Act.{Sought, nowhere, found, Seeking, seek, split, Outcome, refusal, book_found, book_as, act}
 use Rattle.state.specs.FoundLaws.{booking_goes, Fair, Found, booking_found}
-use Rattle.state.specs.SoundLaws.{split_room}
+use Rattle.state.proofs.SoundLaws.{split_room}
 use Rattle.memory.specs.Holds.{Holds, Whole, After}
 use Rattle.memory.proofs.Whole.{floor_is, after_none}
 use Rattle.taking.specs.Take.{Splitting, Splittable, Splits, overfull}

@@ -14,7 +14,7 @@ use Rattle.rule.specs.Single.{OneEnd, min_sv_one}
 use Rattle.shape.specs.Tree.{Tree}
 use Rattle.shape.specs.Visits.{published}
 use Rattle.state.specs.History.{Event, held, Stretches}
-use Rattle.state.specs.LongestLaws.{longest_same}
+use Rattle.state.proofs.LongestLaws.{longest_same}
 use Rattle.grounds.specs.Answered.{Many, Tries, Booked, Unless, Answered}
 use Rattle.grounds.specs.Right.{Once}
 use Rattle.grounds.specs.OnceLaws.{once_most}

@@ -4,20 +4,13 @@ pub mod Session
 pub mod Ends
 pub mod Answered
 -- The promises in other words: each door in full; by the rule between meanings, in three sentences, on the tree in the memory; 01's session.
-pub mod Doors
 pub mod Right
-pub mod Gaps
-pub mod Plain
 pub mod InFull
 -- The laws that they rest on.
 pub mod RecordLaws
 pub mod ReplyLaws
-pub mod RunLaws
 pub mod TallyLaws
 pub mod Sevens
 pub mod Memories
-pub mod SessionLaws
 pub mod OnceLaws
-pub mod GapLaws
-pub mod AnsweredLaws
 pub mod AnsweredOne

@@ -5,7 +5,7 @@ use Rattle.std.proofs.Common.{sym, ◌∙◌, ap, subst, arith}
 use Rattle.tally.specs.declared.Tally.{Tally}
 use Rattle.rule.specs.Order.{Order}
 use Rattle.tally.specs.Counts.{rows, counts, highest, row_of, row_if, row_at, raised, sum}
-use Rattle.tally.specs.CountLaws.{raised_sum}
+use Rattle.tally.proofs.CountLaws.{raised_sum}
 use Rattle.state.specs.State.{State}
 use Rattle.state.specs.Act.{act}
 use Rattle.running.specs.Run.{flat}

@@ -13,7 +13,7 @@ use Rattle.rule.specs.Order.{Order, booking, sweep}
 use Rattle.rule.specs.declared.answer.Answer.{Answer}
 use Rattle.state.specs.State.{State}
 use Rattle.state.specs.Sound.{Sound}
-use Rattle.state.specs.SoundLaws.{act_sound}
+use Rattle.state.proofs.SoundLaws.{act_sound}
 use Rattle.state.specs.Open.{fresh}
 use Rattle.state.specs.OpenLaws.{fresh_sound}
 use Rattle.memory.specs.Header.{need}

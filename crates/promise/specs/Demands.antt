@@ -21,10 +21,10 @@ use Rattle.calls.specs.Calls.{Acts, Tells}
 use Rattle.grounds.specs.Orders.{orders_in, orders_one}
 use Rattle.grounds.specs.Session.{Call, acting, Since, TreeOf, Each}
 use Rattle.grounds.specs.Answered.{Many, Answered}
-use Rattle.grounds.specs.RunLaws.{run_is_orders}
+use Rattle.grounds.proofs.RunLaws.{run_is_orders}
 use Rattle.grounds.specs.Memories.{tells_of}
-use Rattle.grounds.specs.GapLaws.{begun, standing, standing_means, tree_reached, each_call}
-use Rattle.grounds.specs.AnsweredLaws.{answered, many}
+use Rattle.grounds.proofs.GapLaws.{begun, standing, standing_means, tree_reached, each_call}
+use Rattle.grounds.proofs.AnsweredLaws.{answered, many}
 
 -- (2) "each booking is the Min-SV fit by the statement's rules over the gaps that the whole accepted history leaves idle, and \"nothing
 -- fits\" is said exactly if nothing fits"; (3) "the count of tree nodes visited is exactly the published search's, and at most

@@ -25,9 +25,9 @@ use Rattle.running.specs.Runs.{Runs}
 use Rattle.calls.specs.Calls.{Acts}
 use Rattle.grounds.specs.Ends.{opens_with, bytes_of, NoOrder, EndsWith}
 use Rattle.grounds.specs.RecordLaws.{Fair, reading_fair}
-use Rattle.grounds.specs.RunLaws.{run_ends}
+use Rattle.grounds.proofs.RunLaws.{run_ends}
 use Rattle.grounds.specs.Session.{Since, opened}
-use Rattle.grounds.specs.Doors.{act_door, run_door}
+use Rattle.grounds.proofs.Doors.{act_door, run_door}
 
 -- ---- open
 -- "1: a bound above is broken, or the lent memory is smaller than the stated need"; 11 is any record but a whole OL

@@ -17,7 +17,7 @@ use Rattle.calls.specs.declared.act.Done.{Done}
 use Rattle.calls.specs.Calls.{Acts}
 use Rattle.grounds.specs.Answered.{Answered}
 use Rattle.grounds.specs.Memories.{acts_on}
-use Rattle.grounds.specs.AnsweredLaws.{sound_answered}
+use Rattle.grounds.proofs.AnsweredLaws.{sound_answered}
 
 pub whole_answered : (m m' : List ℕ) (s : State) → Sound s → Holds m s → (t : Tally) (bytes : List ℕ) (d : Done) (used : ℕ) (o : Order)
     → Acts t bytes d m m' → reading bytes ≡ order used o → Answered s.settings s.floor (VoidsIn s.tree) s.tree o (numbers_of d.acted.answer)

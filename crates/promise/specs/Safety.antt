@@ -14,7 +14,7 @@ use Rattle.calls.specs.Opens.{Opens}
 use Rattle.running.specs.Runs.{Runs}
 use Rattle.calls.specs.Calls.{Acts, Tells}
 use Rattle.grounds.specs.Sevens.{AllRefused, all_refused}
-use Rattle.grounds.specs.Doors.{open_door, act_door, run_door, tell_door}
+use Rattle.grounds.proofs.Doors.{open_door, act_door, run_door, tell_door}
 
 -- a call has left the memory m as m'. Refused: nothing was accepted; n: what the link needs
 pub record Safe (Refused : Type 0) (n : ℕ) (m m' : List ℕ) : Type 0 where

@@ -12,7 +12,7 @@ use Rattle.numbers.specs.Words.{Bytes}
 use Rattle.state.specs.State.{State}
 use Rattle.state.specs.Act.{act}
 use Rattle.state.specs.Sound.{Sound}
-use Rattle.state.specs.SoundLaws.{act_sound}
+use Rattle.state.proofs.SoundLaws.{act_sound}
 use Rattle.state.specs.Range.{AllInRange}
 use Rattle.memory.specs.Holds.{Holds, After}
 use Rattle.memory.proofs.Whole.{after_none, after_then}
@@ -24,7 +24,7 @@ use Rattle.running.specs.Runs.{Runs}
 use Rattle.calls.specs.Calls.{StepsTo, Acts}
 use Rattle.grounds.specs.Orders.{orders_in, orders_one, sevens, after, tallied, counted}
 use Rattle.grounds.specs.RecordLaws.{bytes_drop, order_fair}
-use Rattle.grounds.specs.RunLaws.{run_is_orders, after_sound, after_settings}
+use Rattle.grounds.proofs.RunLaws.{run_is_orders, after_sound, after_settings}
 use Rattle.grounds.specs.TallyLaws.{counted_tallied, Below, sum_rises}
 use Rattle.grounds.specs.Memories.{acts_on, after_one}
 

@@ -34,7 +34,7 @@ use Rattle.calls.specs.Calls.{Acts}
 use Rattle.grounds.specs.Orders.{orders_in, orders_one}
 use Rattle.grounds.specs.Session.{acting, Since, heard_all}
 use Rattle.grounds.specs.Ends.{opens_with, EndsWith}
-use Rattle.grounds.specs.Gaps.{always_whole, same_memory}
+use Rattle.grounds.proofs.Gaps.{always_whole, same_memory}
 use Rattle.grounds.specs.Right.{Right}
 use Rattle.grounds.specs.Answered.{refusal, Tries, Answered}
 use Rattle.promise.specs.Ends.{open_answers, run_ended}

@@ -29,7 +29,7 @@ use Rattle.state.specs.State.{State}
 use Rattle.state.specs.Act.{Outcome, seek, choice, book_as, sweep_as, act}
 use Rattle.state.specs.Sound.{Sound}
 use Rattle.state.specs.Range.{InRange}
-use Rattle.state.specs.SoundLaws.{act_sound}
+use Rattle.state.proofs.SoundLaws.{act_sound}
 use Rattle.memory.specs.Holds.{Holds, After}
 use Rattle.memory.proofs.Whole.{after_none}
 use Rattle.booking.specs.Book.{Books}

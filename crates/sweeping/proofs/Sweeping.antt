@@ -21,7 +21,7 @@ use Rattle.state.specs.Sound.{Sound}
 use Rattle.state.specs.Act.{left_of, to_drop, cleared, Outcome, refusal, sweep_as, act}
 use Rattle.state.specs.Places.{Placed}
 use Rattle.state.specs.ClearLaws.{left_some}
-use Rattle.state.specs.SweepLaws.{placed_left}
+use Rattle.state.proofs.SweepLaws.{placed_left}
 use Rattle.memory.specs.Holds.{Holds, Whole, After}
 use Rattle.memory.specs.Steps.{Link, Some, Refloors}
 use Rattle.memory.proofs.Whole.{whole_link, floor_is, after_none, after_then}

@@ -19,7 +19,7 @@ use Rattle.state.specs.Act.{act}
 use Rattle.state.specs.Sound.{Sound, most_key}
 use Rattle.state.specs.Exact.{AllStarts, starts_of, NothingFits, TwoPieces}
 use Rattle.state.specs.VoidLaws.{one_end}
-use Rattle.state.specs.RuleLaws.{act_rule}
+use Rattle.state.proofs.RuleLaws.{act_rule}
 
 nothing_chosen : (W : Voids) (h : ℕ) (xs : List Start) → Chosen W h xs nothing ↔ AllStarts (λ b. NoFit W b (free b h)) xs
 nothing_chosen W h [] = ((λ x. tt), (λ x. tt))

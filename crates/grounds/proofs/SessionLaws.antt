@@ -30,10 +30,10 @@ use Rattle.calls.specs.Calls.{StepsTo}
 use Rattle.grounds.specs.Orders.{orders_in, orders_one, orders_unread, orders_opening, sevens, after}
 use Rattle.grounds.specs.RecordLaws.{Fair, reading_fair, order_fair}
 use Rattle.grounds.specs.ReplyLaws.{Apt, act_apt}
-use Rattle.grounds.specs.RunLaws.{run_is_orders}
+use Rattle.grounds.proofs.RunLaws.{run_is_orders}
 use Rattle.grounds.specs.Sevens.{seven_take, seven_drop}
 use Rattle.grounds.specs.Memories.{acts_on, runs_on}
-use Rattle.grounds.specs.Doors.{open_door}
+use Rattle.grounds.proofs.Doors.{open_door}
 use Rattle.grounds.specs.Session.{Call, acting, running, telling, opening_refused, heard, heard_all}
 
 -- ---- what is heard of an order is what it adds to the history

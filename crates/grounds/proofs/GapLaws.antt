@@ -14,17 +14,17 @@ use Rattle.state.specs.State.{State, meaning}
 use Rattle.state.specs.Act.{act}
 use Rattle.state.specs.Sound.{Sound, most_key}
 use Rattle.state.specs.Open.{fresh}
-use Rattle.state.specs.RuleLaws.{act_rule}
+use Rattle.state.proofs.RuleLaws.{act_rule}
 use Rattle.state.specs.Range.{InRange, AllInRange}
 use Rattle.state.specs.History.{Event}
 use Rattle.state.specs.Life.{Life, born, next, live}
-use Rattle.state.specs.HistoryLaws.{now_sound, now_settings, now_floor, voids_of_history}
-use Rattle.state.specs.Made.{Made, made_one, now_made}
+use Rattle.state.proofs.HistoryLaws.{now_sound, now_settings, now_floor, voids_of_history}
+use Rattle.state.proofs.Made.{Made, made_one, now_made}
 use Rattle.running.specs.Run.{flat}
 use Rattle.memory.specs.Holds.{Holds}
 use Rattle.grounds.specs.Orders.{sevens}
 use Rattle.grounds.specs.Sevens.{seven_take, seven_drop}
-use Rattle.grounds.specs.SessionLaws.{heard_next, heard_all_lem, live_after, call_went, opened_begun}
+use Rattle.grounds.proofs.SessionLaws.{heard_next, heard_all_lem, live_after, call_went, opened_begun}
 use Rattle.grounds.specs.Session.{Each, Call, Since, opened, more, heard_all, TreeOf}
 use Rattle.grounds.specs.Right.{Means, Right}
 use Rattle.grounds.specs.OnceLaws.{once_voids}

@@ -19,12 +19,12 @@ use Rattle.state.specs.State.{State, meaning, voids_of}
 use Rattle.state.specs.Act.{Sought, nowhere, found, seek, choice, book_found, book_as, sweep_as, act}
 use Rattle.state.specs.Sound.{Sound, most_key}
 use Rattle.state.specs.KeptLaws.{stays_least}
-use Rattle.state.specs.LongestLaws.{kept_longest}
+use Rattle.state.proofs.LongestLaws.{kept_longest}
 use Rattle.state.specs.FoundLaws.{booking_goes, sweep_goes, case_full, Fair, Found, booking_found}
 use Rattle.state.specs.Range.{InRange}
 use Rattle.state.specs.Lives.{Lives, levels}
-use Rattle.state.specs.LivesLaws.{found_split, act_lives}
-use Rattle.state.specs.WholeLaws.{shut, sound_lives}
+use Rattle.state.proofs.LivesLaws.{found_split, act_lives}
+use Rattle.state.proofs.WholeLaws.{shut, sound_lives}
 use Rattle.state.specs.VoidLaws.{has_voids, length_voids, dropped_voids, one_end, chosen_as}
 use Rattle.state.specs.ChosenLaws.{seek_chosen}
 use Rattle.state.specs.ReplacedLaws.{replaced}

@@ -12,11 +12,11 @@ use Rattle.shape.specs.HeightLaws.{height_allowed}
 use Rattle.state.specs.State.{State}
 use Rattle.state.specs.Sound.{Lawful, Apart, Sound, most_key}
 use Rattle.state.specs.Cover.{cover}
-use Rattle.state.specs.TickLaws.{cov_one, cover_in, cover_some}
+use Rattle.state.proofs.TickLaws.{cov_one, cover_in, cover_some}
 use Rattle.state.specs.History.{Longest}
 use Rattle.state.specs.Bordered.{Bordered, Kept}
-use Rattle.state.specs.LongestLaws.{longest_same, leaf_longest}
-use Rattle.state.specs.OpenEndLaws.{open_end_lem}
+use Rattle.state.proofs.LongestLaws.{longest_same, leaf_longest}
+use Rattle.state.proofs.OpenEndLaws.{open_end_lem}
 use Rattle.state.specs.KeptLaws.{stays_least}
 use Rattle.state.specs.Lives.{Lives}
 

@@ -12,11 +12,11 @@ use Rattle.state.specs.Room.{Room}
 use Rattle.state.specs.State.{State}
 use Rattle.state.specs.Places.{Placed}
 use Rattle.state.specs.Cover.{cov, cover}
-use Rattle.state.specs.TickLaws.{on_yes, on_past, cov_no, cov_empty, cov_split}
+use Rattle.state.proofs.TickLaws.{on_yes, on_past, cov_no, cov_empty, cov_split}
 use Rattle.state.specs.History.{on, Longest}
 use Rattle.state.specs.Bordered.{Bordered, Kept}
-use Rattle.state.specs.LongestLaws.{longest_same, bordered, leaf_longest}
-use Rattle.state.specs.OpenEndLaws.{another}
+use Rattle.state.proofs.LongestLaws.{longest_same, bordered, leaf_longest}
+use Rattle.state.proofs.OpenEndLaws.{another}
 use Rattle.state.specs.KeptLaws.{case_kept, kept_is, kept_not, pick_most}
 use Rattle.state.specs.PlaceLaws.{one_spare}
 use Rattle.state.specs.SplitLaws.{Split}

@@ -16,8 +16,8 @@ use Rattle.state.specs.Sound.{Sound, most_key}
 use Rattle.state.specs.FoundLaws.{booking_goes, case_full, Fair, Found, booking_found}
 use Rattle.state.specs.Range.{InRange}
 use Rattle.state.specs.Lives.{holds, levels}
-use Rattle.state.specs.LivesLaws.{act_lives, found_room}
-use Rattle.state.specs.WholeLaws.{shut, sound_lives, lives_sound}
+use Rattle.state.proofs.LivesLaws.{act_lives, found_room}
+use Rattle.state.proofs.WholeLaws.{shut, sound_lives, lives_sound}
 
 module _ (s : State) (W : Sound s) where
   pub act_sound : (o : Order) → InRange o → Sound (act s o).after

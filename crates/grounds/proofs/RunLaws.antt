@@ -12,7 +12,7 @@ use Rattle.numbers.specs.Words.{Bytes}
 use Rattle.state.specs.State.{State}
 use Rattle.state.specs.Act.{act}
 use Rattle.state.specs.Sound.{Sound}
-use Rattle.state.specs.SoundLaws.{act_sound}
+use Rattle.state.proofs.SoundLaws.{act_sound}
 use Rattle.state.specs.SettingsLaws.{act_settings}
 use Rattle.state.specs.Range.{AllInRange}
 use Rattle.stepping.specs.Step.{step_on}

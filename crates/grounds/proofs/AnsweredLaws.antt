@@ -28,7 +28,7 @@ use Rattle.state.specs.Life.{Life}
 use Rattle.grounds.specs.Answered.{Many, Leaves, Bounded, refusal, Tries, Booked, Unless, Answered}
 use Rattle.grounds.specs.Right.{Once}
 use Rattle.grounds.specs.OnceLaws.{once_voids}
-use Rattle.grounds.specs.GapLaws.{Reached, reached_sound, reached_means}
+use Rattle.grounds.proofs.GapLaws.{Reached, reached_sound, reached_means}
 
 -- ---- a set has as many voids as a list of them without repeats
 pub many_listed : (vs : List Void) (W : Voids) → Once vs → ((c s e : ℕ) → Has vs c s e ↔ W c s e) → Many (length vs) W

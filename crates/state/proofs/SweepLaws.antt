@@ -14,10 +14,10 @@ use Rattle.state.specs.Act.{to_drop, cleared}
 use Rattle.state.specs.Sound.{most_key}
 use Rattle.state.specs.Places.{Placed}
 use Rattle.state.specs.Cover.{cov, cover}
-use Rattle.state.specs.TickLaws.{cov_no}
+use Rattle.state.proofs.TickLaws.{cov_no}
 use Rattle.state.specs.Bordered.{Bordered, Kept}
-use Rattle.state.specs.LongestLaws.{bordered}
-use Rattle.state.specs.OpenEndLaws.{open_end_lem}
+use Rattle.state.proofs.LongestLaws.{bordered}
+use Rattle.state.proofs.OpenEndLaws.{open_end_lem}
 use Rattle.state.specs.ClearLaws.{Cleared, among_append, none_lost, left_some, left_ordered, left_late, left_less, left_same}
 
 -- time goes on

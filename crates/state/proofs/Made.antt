@@ -22,8 +22,8 @@ use Rattle.state.specs.History.{Event, books, sweeps, held, floor_of}
 use Rattle.state.specs.Life.{event, Life, born, next, live}
 use Rattle.state.specs.FoundLaws.{booking_goes, case_full, Fair, Found, booking_found}
 use Rattle.state.specs.Range.{InRange, AllInRange}
-use Rattle.state.specs.WholeLaws.{lives_sound}
-use Rattle.state.specs.HistoryLaws.{Lived, live_lives, fresh_lived}
+use Rattle.state.proofs.WholeLaws.{lives_sound}
+use Rattle.state.proofs.HistoryLaws.{Lived, live_lives, fresh_lived}
 
 -- z is s after the void of channel c that has the time from b up to f has given it
 pub record Taken (s : State) (c b f : ℕ) (z : State) : Type 0 where

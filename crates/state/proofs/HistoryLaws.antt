@@ -14,16 +14,16 @@ use Rattle.state.specs.State.{State, meaning}
 use Rattle.state.specs.Act.{act}
 use Rattle.state.specs.Open.{fresh}
 use Rattle.state.specs.Sound.{Sound}
-use Rattle.state.specs.TickLaws.{cover_in}
+use Rattle.state.proofs.TickLaws.{cover_in}
 use Rattle.state.specs.History.{Event, held, floor_of, Stretches}
 use Rattle.state.specs.Life.{event, Life, born, next, live}
 use Rattle.state.specs.Bordered.{Bordered, Kept}
-use Rattle.state.specs.LongestLaws.{kept_longest}
+use Rattle.state.proofs.LongestLaws.{kept_longest}
 use Rattle.state.specs.KeptLaws.{stays_least}
 use Rattle.state.specs.Range.{AllInRange}
 use Rattle.state.specs.Lives.{Lives, holds, levels}
-use Rattle.state.specs.LivesLaws.{act_lives}
-use Rattle.state.specs.WholeLaws.{cover_one, lives_sound}
+use Rattle.state.proofs.LivesLaws.{act_lives}
+use Rattle.state.proofs.WholeLaws.{cover_one, lives_sound}
 use Rattle.state.specs.VoidLaws.{has_voids}
 use Rattle.state.specs.OpenLaws.{fresh_sound, fresh_settings, fresh_floor, fresh_wide}
 

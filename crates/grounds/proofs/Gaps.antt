@@ -18,10 +18,10 @@ use Rattle.calls.specs.declared.tell.Told.{Told}
 use Rattle.running.specs.Runs.{Runs}
 use Rattle.calls.specs.Calls.{Acts, Tells}
 use Rattle.grounds.specs.Memories.{tells_of, same_link}
-use Rattle.grounds.specs.Doors.{act_door, run_door}
+use Rattle.grounds.proofs.Doors.{act_door, run_door}
 use Rattle.grounds.specs.Session.{Call, Since, more, heard_all, Each}
 use Rattle.grounds.specs.Right.{Means, Right}
-use Rattle.grounds.specs.GapLaws.{begun, standing, standing_means, each_call, right}
+use Rattle.grounds.proofs.GapLaws.{begun, standing, standing_means, each_call, right}
 
 module _ {g : Settings} {F : ℕ} {past : List Event} {m : List ℕ} (S : Since g F past m) where
   pub always_whole : Whole m

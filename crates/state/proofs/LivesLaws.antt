@@ -19,8 +19,8 @@ use Rattle.state.specs.Act.{Sought, nowhere, found, seek, split, book_found, boo
 use Rattle.state.specs.Sound.{most_key}
 use Rattle.state.specs.Places.{Placed}
 use Rattle.state.specs.SplitLaws.{Split, split_ok, split_within}
-use Rattle.state.specs.BookLaws.{room, book_kept}
-use Rattle.state.specs.SweepLaws.{later, clear_dropped, raised}
+use Rattle.state.proofs.BookLaws.{room, book_kept}
+use Rattle.state.proofs.SweepLaws.{later, clear_dropped, raised}
 use Rattle.state.specs.FoundLaws.{booking_goes, sweep_goes, case_full, Fair, Found, booking_found}
 use Rattle.state.specs.Range.{InRange}
 use Rattle.state.specs.Lives.{Lives, holds, levels}

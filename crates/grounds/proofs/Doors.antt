@@ -33,7 +33,7 @@ use Rattle.grounds.specs.Ends.{bytes_of}
 use Rattle.grounds.specs.Orders.{orders_in, sevens, after}
 use Rattle.grounds.specs.RecordLaws.{Fair, reading_fair}
 use Rattle.grounds.specs.ReplyLaws.{Apt, act_apt, row_at_lem}
-use Rattle.grounds.specs.RunLaws.{run_is_orders, run_ends, end_codes, step_settings, step_refused, run_settings}
+use Rattle.grounds.proofs.RunLaws.{run_is_orders, run_ends, end_codes, step_settings, step_refused, run_settings}
 use Rattle.grounds.specs.Sevens.{AllRefused, flat_length, all_refused_same}
 use Rattle.grounds.specs.Memories.{whole_run, after_same, room_is}
 

@@ -6,10 +6,10 @@ use Rattle.rule.specs.Key.{channel_of}
 use Rattle.shape.specs.Tree.{Tree, size, In}
 use Rattle.shape.specs.TreeLaws.{same_key}
 use Rattle.state.specs.Sound.{OpenEnd, most_key}
-use Rattle.state.specs.TickLaws.{cover_some}
+use Rattle.state.proofs.TickLaws.{cover_some}
 use Rattle.state.specs.Bordered.{Kept}
 use Rattle.state.specs.LeafLaws.{two_leaves}
-use Rattle.state.specs.LongestLaws.{bordered}
+use Rattle.state.proofs.LongestLaws.{bordered}
 
 module _ (F₀ F G C : ℕ) (H : ℕ → ℕ → ℕ) (t : Tree) (K : Kept F₀ F G C H t) (f : F ≤ open_end) (z : F₀ ≤ last_moment) where
   pub open_end_lem : (c : ℕ) → c < C → OpenEnd t c

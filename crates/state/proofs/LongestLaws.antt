@@ -7,7 +7,7 @@ use Rattle.rule.specs.Key.{start_of, channel_of}
 use Rattle.shape.specs.Tree.{Tree, In}
 use Rattle.shape.specs.TreeLaws.{all_in}
 use Rattle.shape.specs.Voids.{VoidsIn}
-use Rattle.state.specs.TickLaws.{Holds, cover_in, cover_some}
+use Rattle.state.proofs.TickLaws.{Holds, cover_in, cover_some}
 use Rattle.state.specs.History.{Idle, Longest}
 use Rattle.state.specs.Bordered.{Bordered, Kept}
 

@@ -14,13 +14,13 @@ use Rattle.rule.specs.Codes.{booking_code, too_many, chosen_reply}
 use Rattle.rule.specs.Rule.{Booking, Rule}
 use Rattle.rule.specs.Single.{OneEnd}
 use Rattle.state.specs.Exact.{AllStarts, starts_of, NothingFits, TwoPieces}
-use Rattle.state.specs.ExactLaws.{seven_exactly, eight_exactly}
+use Rattle.state.proofs.ExactLaws.{seven_exactly, eight_exactly}
 use Rattle.state.specs.VoidLaws.{chosen_as}
 use Rattle.state.specs.History.{Event, floor_of, Stretches}
 use Rattle.grounds.specs.Session.{Call, Since, heard, Each}
 use Rattle.grounds.specs.Right.{Right}
 use Rattle.grounds.specs.AnsweredOne.{stretches_one}
-use Rattle.grounds.specs.Gaps.{each_right}
+use Rattle.grounds.proofs.Gaps.{each_right}
 
 -- the gap from .. to of the channel answered is the one taken: Min-SV at the first of the starts xs that has a fit
 pub record Fitted (W : Voids) (h l : ℕ) (xs : List Start) (numbers : List ℕ) : Type 0 where

@@ -1,0 +1,12 @@
+pub mod TickLaws
+pub mod LongestLaws
+pub mod OpenEndLaws
+pub mod BookLaws
+pub mod SweepLaws
+pub mod LivesLaws
+pub mod WholeLaws
+pub mod SoundLaws
+pub mod RuleLaws
+pub mod ExactLaws
+pub mod HistoryLaws
+pub mod Made
