@@ -12,11 +12,10 @@ use Rattle.rule.specs.Settings.{Settings, longest, most_lines}
 use Rattle.rule.specs.Fit.{hold, hold_least, free}
 use Rattle.rule.specs.Starts.{starts}
 use Rattle.rule.specs.Order.{booking}
-use Rattle.rule.specs.Key.{start_of, channel_of}
+use Rattle.rule.specs.Key.{channel_of}
 use Rattle.rule.specs.Codes.{booking_code}
 use Rattle.rule.specs.Answer.{booked, refused, seven, numbers_of}
 use Rattle.rule.specs.declared.answer.Answer.{Answer}
-use Rattle.shape.specs.Tree.{size}
 use Rattle.state.specs.State.{State}
 use Rattle.state.specs.Sound.{Sound}
 use Rattle.state.specs.Act.{Sought, nowhere, found, Seeking, seek, split, Outcome, refusal, book_found, book_as, act}

@@ -5,7 +5,7 @@ use Rattle.rule.specs.Answer.{seven, numbers_of}
 use Rattle.rule.specs.declared.answer.Answer.{Answer}
 use Rattle.state.specs.State.{State}
 use Rattle.state.specs.Act.{act}
-use Rattle.memory.specs.Holds.{Holds, After}
+use Rattle.memory.specs.Holds.{After}
 
 -- the answer in 01's seven numbers, and the memory after
 pub record Books (r l lines : ℕ) (a : Answer) (m m' : List ℕ) (s : State) : Type 0 where

@@ -2,13 +2,12 @@
 use mathlib.Core.Path.{◌≡◌, refl, sym, ap, ◌∙◌}
 use mathlib.Core.Logic.{◌⊎◌, inl, inr}
 use mathlib.Core.List.{List, [], ◌∷◌, ◌++◌, append-nil}
-use Prim.Native.Nat.{ℕ, zero, suc, ◌+◌, ◌*◌, ◌-◌, ◌≤◌, ◌<◌}
+use Prim.Native.Nat.{ℕ, zero, suc, ◌+◌, ◌*◌, ◌≤◌, ◌<◌}
 use native.Mathlib.Omega.{arith}
 use borrow.Author.Tests.{lt-leb}
 use lib.ListN.{length, drop, drop_of_length-le}
 use Rattle.tally.specs.declared.Tally.{Tally}
 use Rattle.rule.specs.declared.answer.Answer.{Answer}
-use Rattle.rule.specs.Order.{Order}
 use Rattle.rule.specs.Answer.{seven, numbers_of}
 use Rattle.tally.specs.Counts.{row_of, raised}
 use Rattle.order.specs.Records.{Reading, unread, opening, order, reading, used_by}
@@ -17,10 +16,10 @@ use Rattle.order.proofs.Alone.{inside}
 use Rattle.state.specs.State.{State}
 use Rattle.state.specs.Act.{act}
 use Rattle.state.specs.Sound.{Sound}
-use Rattle.memory.specs.Holds.{Whole, After}
+use Rattle.memory.specs.Holds.{After}
 use Rattle.stepping.specs.Step.{Stepped, step_on, unused}
 use Rattle.running.specs.declared.RunDone.{RunDone}
-use Rattle.running.specs.Run.{Ran, ended, answered, onward, run_from, run_on, flat}
+use Rattle.running.specs.Run.{Ran, answered, onward, run_from, run_on, flat}
 use Rattle.running.specs.Runs.{RunsTo, Runs}
 use Rattle.calls.specs.declared.act.Done.{Done}
 use Rattle.calls.specs.Calls.{Unused, StepsTo, Acts}

@@ -1,26 +1,22 @@
 -- From what the reader and the opening promise to what the call promises, case by case.
 use mathlib.Core.Path.{◌≡◌, refl, sym, ap, ◌∙◌}
-use mathlib.Core.Logic.{inl, inr}
-use mathlib.Core.Bool.{Bool, true, false, not}
-use mathlib.Core.List.{List, [], ◌∷◌}
-use Prim.Native.Nat.{ℕ, zero, suc, ◌+◌, ◌*◌, ◌≤◌, ◌<◌}
+use mathlib.Core.Bool.{Bool, true, false}
+use mathlib.Core.List.{List}
+use Prim.Native.Nat.{ℕ, ◌+◌, ◌*◌, ◌≤◌, ◌<◌}
 use native.Mathlib.Omega.{arith}
 use lib.Dec.{ltb}
 use lib.ListN.{length, take}
-use Rattle.numbers.specs.Case.{pick, case_le}
 use Rattle.rule.specs.Moments.{last_moment}
-use Rattle.rule.specs.Settings.{Settings, most_lines, settings, in_bounds}
+use Rattle.rule.specs.Settings.{Settings, settings, in_bounds}
 use Rattle.rule.specs.SettingsLaws.{in_bounds_lem}
 use Rattle.order.specs.declared.Record.{Record}
 use Rattle.order.specs.declared.Record.TheVariants.{Opening as Read, Booking, Sweep, Refused}
 use Rattle.order.specs.Records.{Reading, unread, opening, order, Opening, delays_at, reading, opening_only}
 use Rattle.order.specs.Read.{meant, Narrow, ReadsOpening}
 use Rattle.order.specs.Delays.{delays_length}
-use Rattle.state.specs.Open.{fresh}
-use Rattle.memory.specs.Holds.{After}
 use Rattle.opening.specs.Opening.{opening_code, Opens as Codes}
 use Rattle.calls.specs.declared.open.Opened.{Opened}
-use Rattle.calls.specs.Opens.{settings_of, OpensAs, OpensRead, Opens}
+use Rattle.calls.specs.Opens.{settings_of, OpensRead, Opens}
 
 -- what an opening record says
 abbrev said : (channels lines leap floor : ℕ) → List ℕ → Opening

@@ -1,14 +1,13 @@
 -- Clearing, from program point to program point: a tree that stays, a leaf that goes, and a node over what is left of its two sides.
 use mathlib.Core.Path.{◌≡◌, refl, sym, ap, ◌∙◌, subst}
-use mathlib.Core.Logic.{◌≢◌}
-use mathlib.Core.Bool.{Bool, true, false, false≢true}
+use mathlib.Core.Bool.{true, false, false≢true}
 use mathlib.Core.List.{List, [], ◌∷◌, ◌++◌, append_assoc}
 use Prim.Native.Nat.{ℕ, ◌+◌, ◌*◌, ◌/◌, ◌%◌, ◌≤◌, ◌<◌}
 use native.Mathlib.Omega.{arith}
 use lib.ListN.{length, length-append}
 use Rattle.numbers.specs.Words.{word}
-use Rattle.shape.specs.Tree.{Tree, leaf, node, height, size, low, same, uses}
-use Rattle.shape.specs.PlaceLaws.{same_self, same_other, same_none}
+use Rattle.shape.specs.Tree.{Tree, leaf, node, height, low, same, uses}
+use Rattle.shape.specs.PlaceLaws.{same_self, same_other}
 use Rattle.shape.specs.TreeLaws.{size_some}
 use Rattle.shape.specs.Clear.{join, Rest, gone, rest, meet, clear, unused, freed}
 use Rattle.shape.specs.JoinLaws.{clear_none, freed_none, clear_sides, freed_sides, clear_leaf, freed_leaf}
@@ -16,7 +15,7 @@ use Rattle.node.specs.Layout.{Within, node_at, Copied}
 use Rattle.node.specs.Rep.{Stands}
 use Rattle.node.proofs.Seats.{near_half}
 use Rattle.node.proofs.Reps.{within, left_stands, right_stands, stands_nodes, copied_stands}
-use Rattle.node.proofs.Frames.{node_kept, within_kept}
+use Rattle.node.proofs.Frames.{node_kept}
 use Rattle.turning.specs.Turns.{Two, Arranged}
 use Rattle.turning.proofs.Sides.{seat_free}
 use Rattle.state.specs.Sound.{among, below}

@@ -1,10 +1,10 @@
 -- A link cleared: from what the header says to the whole tree's clearing, and back to a header.
 use mathlib.Core.Path.{◌≡◌, sym, subst, ◌∙◌}
 use mathlib.Core.List.{List, ◌++◌}
-use Prim.Native.Nat.{ℕ, ◌+◌, ◌*◌, ◌-◌, ◌≤◌, ◌<◌}
+use Prim.Native.Nat.{ℕ, ◌+◌, ◌-◌, ◌≤◌}
 use native.Mathlib.Decide.{ℕ_discrete}
 use native.Mathlib.Omega.{arith}
-use lib.ListN.{length, get_or, set, length-set, length-append}
+use lib.ListN.{length, set, length-set, length-append}
 use lib.Seq.{get_or-set_same, get_or-set_other}
 use Rattle.numbers.specs.Words.{word, store}
 use Rattle.shape.specs.Tree.{Tree, size}

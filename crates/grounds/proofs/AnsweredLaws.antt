@@ -10,7 +10,7 @@ use Rattle.rule.specs.Fit.{hold, free}
 use Rattle.rule.specs.Starts.{Start, starts}
 use Rattle.rule.specs.Voids.{Void, Voids, Has}
 use Rattle.rule.specs.Kept.{stays, dropped}
-use Rattle.rule.specs.Key.{key_of, start_of, channel_of, key_is}
+use Rattle.rule.specs.Key.{start_of, channel_of, key_is}
 use Rattle.rule.specs.Order.{Order, booking, sweep}
 use Rattle.rule.specs.Answer.{booked, refused, seven}
 use Rattle.rule.specs.Codes.{booking_code, sweep_code, too_many, chosen_reply}

@@ -1,7 +1,5 @@
--- What each public call's contract gives, in full, for every byte string and every memory: its codes, when exactly 2 is given, what a refusal
--- leaves, bytes used, tally and answer slice. Crate promise says demand 1 of it (Safety.antt).
--- 01, What comes back: "Every code but 0 leaves link memory as it stood before that record, byte for byte."
-use Rattle.std.specs.Prelude.{◌≡◌, refl, ◌⊎◌, ◌↔◌, ◌≢◌, List, [], ◌∷◌, ◌++◌, ℕ, ◌*◌, ◌-◌, ◌≤◌, length, get_or, drop}
+-- What each public call keeps (specs/Doors.antt), proved from its contract.
+use Rattle.std.specs.Prelude.{◌≡◌, refl, ◌⊎◌, ◌≢◌, List, [], ◌∷◌, ◌++◌, ℕ, ◌*◌, ◌-◌, ◌≤◌, length, get_or, drop}
 use Rattle.std.proofs.Common.{sym, ◌∙◌, ap, subst, inl, inr, arith, length-append, length-drop}
 use Rattle.std.proofs.Math.Seq.{drop-append_seam}
 use Rattle.numbers.specs.Words.{Bytes, word}
@@ -11,12 +9,11 @@ use Rattle.tally.specs.Counts.{row_if, row_at, raised}
 use Rattle.rule.specs.Order.{Order, booking, sweep}
 use Rattle.order.specs.Records.{Reading, unread, opening, order, reading}
 use Rattle.state.specs.State.{State}
-use Rattle.state.specs.Sound.{Sound}
 use Rattle.state.specs.Act.{act}
 use Rattle.state.specs.OpenLaws.{fresh_settings}
 use Rattle.memory.specs.Header.{need}
 use Rattle.memory.proofs.Parts.{past_none}
-use Rattle.memory.specs.Holds.{Whole, Past, After}
+use Rattle.memory.specs.Holds.{Whole, After}
 use Rattle.opening.proofs.Same.{broken, small, fine, answer}
 use Rattle.opening.proofs.Same
 use Rattle.stepping.specs.Step.{Stepped, step_on}
@@ -30,20 +27,13 @@ use Rattle.running.specs.Runs.{Runs}
 use Rattle.calls.specs.Calls.{Acts, Tells}
 use Rattle.running.proofs.Within.{run_within}
 use Rattle.grounds.specs.Ends.{bytes_of}
-use Rattle.grounds.specs.Orders.{orders_in, sevens, after}
+use Rattle.grounds.specs.Orders.{orders_in, sevens}
 use Rattle.grounds.specs.RecordLaws.{Fair, reading_fair}
 use Rattle.grounds.specs.ReplyLaws.{Apt, act_apt, row_at_lem}
 use Rattle.grounds.proofs.RunLaws.{run_is_orders, run_ends, end_codes, step_settings, step_refused, run_settings}
 use Rattle.grounds.specs.Sevens.{AllRefused, flat_length, all_refused_same}
 use Rattle.grounds.specs.Memories.{whole_run, after_same, room_is}
-
--- ---- open
-pub record OpenDoor (room : ℕ) (o : Opened) (m m' : List ℕ) : Type 0 where
-  pub code : (o.code ≡ 0) ⊎ ((o.code ≡ 1) ⊎ (o.code ≡ 11))
-  -- "Bytes used are the record's length, and 0 under 1, 2 and 11"
-  pub refused : o.code ≢ 0 → (o.used ≡ 0) × (m' ≡ m)
-  -- "Memory past what that room needs is never written."
-  pub past : Past (need room) m m'
+use Rattle.grounds.specs.Doors.{OpenDoor, ActDoor, RunDoor, TellDoor}
 
 pub open_door : (room : ℕ) (bytes m m' : List ℕ) (o : Opened) → Bytes bytes → Opens room bytes o m m' → OpenDoor room o m m'
 open_door room bytes m m' o h = go (reading bytes) (reading_fair bytes)
@@ -63,23 +53,6 @@ open_door room bytes m m' o h = go (reading bytes) (reading_fair bytes)
             let u = subst (λ c. OpensAs c n (settings_of room p) p.floor o m m') e a in
             let g = fresh_settings (settings_of room p) p.floor q (f h) in
             record { code = rw u.0 (inl refl); refused = λ k. absurd (k (rw u.0)); past = rw g at u.1.past }
-
--- ---- act
-pub record ActDoor (t : Tally) (bytes : List ℕ) (d : Done) (m m' : List ℕ) : Type 0 where
-  pub code : (d.acted.answer.code ≡ 0) ⊎ ((2 ≤ d.acted.answer.code) × (d.acted.answer.code ≤ 11))
-  -- "2: the lent memory is not a whole link"
-  pub whole : (d.acted.answer.code ≡ 2) ↔ (¬ (Whole m))
-  -- "Every code but 0 leaves link memory as it stood before that record, byte for byte."
-  pub refused : d.acted.answer.code ≢ 0 → m' ≡ m
-  -- "A refusal has 0 in all but code and count"
-  pub numbers : d.acted.answer.code ≢ 0 → numbers_of d.acted.answer ≡ d.acted.answer.code ∷ 0 ∷ 0 ∷ 0 ∷ 0 ∷ d.acted.answer.count ∷ 0 ∷ []
-  pub used : d.acted.used ≤ length bytes
-  -- "Bytes used are .. 0 under 1, 2 and 11"; "Codes 1, 2, 11 and 12 raise none."
-  pub unread : (d.acted.answer.code ≡ 2) ⊎ (d.acted.answer.code ≡ 11) → (d.acted.used ≡ 0) × (d.tally ≡ t)
-  -- "Bytes used are the record's length"; "An order acted on raises exactly one count": under every other code an order was read, its length
-  -- is what was used, and the row of its answer is raised
-  pub tally : d.acted.answer.code ≢ 2 → d.acted.answer.code ≢ 11 → (n : ℕ) × (o : Order) × (reading bytes ≡ order n o) × (d.acted.used ≡ n) × (d.tally ≡ raised t (row_at d.acted.answer.code (row_if o)))
-  pub past : Past (need (word m 0)) m m'
 
 -- what a step on a sound link says
 record StepDoor (t : Tally) (bytes : List ℕ) (x : Stepped) : Type 0 where
@@ -157,19 +130,6 @@ act_door t bytes m m' d h x y (inr (n, A)) =
       past = rw A.same (past_none (need (word m 0)) m);
     }
 
--- ---- run. out, out': the answer slice before and after
-pub record RunDoor (t : Tally) (bytes : List ℕ) (x : RunDone) (m m' out out' : List ℕ) : Type 0 where
-  pub code : (x.ran.code ≡ 0) ⊎ ((x.ran.code ≡ 2) ⊎ ((x.ran.code ≡ 11) ⊎ (x.ran.code ≡ 12)))
-  pub whole : (x.ran.code ≡ 2) ↔ (¬ (Whole m))
-  -- "Every code but 0 leaves link memory as it stood before that record": a run none of whose answers has code 0 changes nothing
-  pub refused : AllRefused x.ran.answered out' → m' ≡ m
-  -- the place is "its length" at its end
-  pub place : (x.ran.place ≤ length bytes) × (x.ran.code ≡ 0 → x.ran.place ≡ length bytes)
-  -- "The unused part of the answer slice is untouched."
-  pub answers : 7 * x.ran.answered ≤ length out
-  pub slice : (length out' ≡ length out) × (drop (7 * x.ran.answered) out' ≡ drop (7 * x.ran.answered) out)
-  pub past : Past (need (word m 0)) m m'
-
 pub run_door : (t : Tally) (bytes m m' out out' : List ℕ) (x : RunDone) → Bytes bytes → Bytes m → Bytes m' → Runs t bytes x m m' out out' → RunDoor t bytes x m m' out out'
 run_door t bytes m m' out out' x h p q (inl (s, W, H, A)) =
     let y = run_on s t (length out) bytes in
@@ -215,12 +175,6 @@ pub empty_run : (t : Tally) (m m' out out' : List ℕ) (x : RunDone) → Whole m
     → (x ≡ record { tally = t; ran = record { code = 0; place = 0; answered = 0 } }) × (m' ≡ m) × (out' ≡ out)
 empty_run t m m' out out' x w p q (inl (s, W, H, A)) = (whole_run x ∙ rw (A.tally, A.code, A.place, A.answered), after_same m m' s W p q H A.after, A.slice)
 empty_run t m m' out out' x w p q (inr (n, A)) = absurd (n w)
-
--- ---- tell: "the number of voids kept, with code 0, or 0 voids with code 2"
-pub record TellDoor (x : Told) (m : List ℕ) : Type 0 where
-  pub code : (x.code ≡ 0) ⊎ (x.code ≡ 2)
-  pub whole : (x.code ≡ 2) ↔ (¬ (Whole m))
-  pub refused : x.code ≢ 0 → x.voids ≡ 0
 
 pub tell_door : (m : List ℕ) (x : Told) → Tells x m → TellDoor x m
 tell_door m x (inl (s, W, H, A)) = record { code = rw A (inl refl); whole = rw A ((λ k. absurd (omega arith)), (λ k. absurd (k (s, W, H)))); refused = λ k. absurd (k (rw A)) }

@@ -7,8 +7,6 @@ use Rattle.rule.specs.Settings.{Settings, in_bounds}
 use Rattle.rule.specs.Order.{Order}
 use Rattle.rule.specs.Answer.{seven}
 use Rattle.shape.specs.Tree.{Tree}
-use Rattle.node.specs.Layout.{root_seat}
-use Rattle.node.specs.Rep.{Stands}
 use Rattle.node.proofs.Reps.{one_tree}
 use Rattle.state.specs.State.{State, meaning}
 use Rattle.state.specs.Act.{act}

@@ -7,11 +7,10 @@ use Rattle.rule.specs.Settings.{Settings}
 use Rattle.rule.specs.Voids.{Meaning}
 use Rattle.rule.specs.Order.{Order}
 use Rattle.numbers.specs.Words.{Bytes}
-use Rattle.state.specs.State.{State, meaning}
-use Rattle.state.specs.Sound.{Sound}
+use Rattle.state.specs.State.{meaning}
 use Rattle.state.specs.VoidLaws.{length_voids}
 use Rattle.state.specs.History.{Event}
-use Rattle.memory.specs.Holds.{Holds, Whole}
+use Rattle.memory.specs.Holds.{Whole}
 use Rattle.calls.specs.declared.act.Done.{Done}
 use Rattle.running.specs.declared.RunDone.{RunDone}
 use Rattle.calls.specs.declared.tell.Told.{Told}

@@ -1,5 +1,4 @@
--- Demand 2 in three sentences, as they follow from the rule (Right.antt): what a booking is, and when exactly 7 and 8 are said.
--- 01, codes: "nothing fits at any start tried"; "the void taken leaves two pieces and the room is full; no other void is tried".
+-- The three sentences (specs/Plain.antt), proved from the rule.
 use Rattle.std.specs.Prelude.{◌≡◌, refl, Bool, true, false, ◌↔◌, List, [], ◌∷◌, ℕ, zero, suc, ◌+◌, length, get_or, take, drop}
 use Rattle.std.proofs.Common.{sym, ◌∙◌, ap, subst, arith}
 use Rattle.numbers.specs.Case.{pick}
@@ -21,13 +20,7 @@ use Rattle.grounds.specs.Session.{Call, Since, heard, Each}
 use Rattle.grounds.specs.Right.{Right}
 use Rattle.grounds.specs.AnsweredOne.{stretches_one}
 use Rattle.grounds.proofs.Gaps.{each_right}
-
--- the gap from .. to of the channel answered is the one taken: Min-SV at the first of the starts xs that has a fit
-pub record Fitted (W : Voids) (h l : ℕ) (xs : List Start) (numbers : List ℕ) : Type 0 where
-  pub from : ℕ
-  pub to : ℕ
-  pub chosen : Chosen W h xs (taken (get_or numbers 2 0) (get_or numbers 3 0) (get_or numbers 1 0) from to)
-  pub finish : get_or numbers 4 0 ≡ get_or numbers 3 0 + l
+use Rattle.grounds.specs.Plain.{Fitted, Plain}
 
 -- ---- what a code among the seven numbers says of the reply
 code_refused : (y : Reply) (n x : ℕ) → (get_or (seven y n) 0 0 ≡ suc x) ↔ (y ≡ refused (suc x))
@@ -114,16 +107,6 @@ module _ (g : Settings) (F : ℕ) (past : List Event) (r l p : ℕ) (a : List �
         (λ h. let z = E.0 ((code_refused R.reply R.count 7).0 (ap (λ n. get_or n 0 0) (sym R.are) ∙ h)) in (sym same_code ∙ z.0, z.1)),
         (λ h. ap (λ n. get_or n 0 0) R.are ∙ (code_refused R.reply R.count 7).1 (E.1 (same_code ∙ h.0, h.1))),
       )
-
--- ---- each order of a call
-pub record Plainly (g : Settings) (F : ℕ) (past : List Event) (r l p : ℕ) (a : List ℕ) : Type 0 where
-  pub accepted : get_or a 0 0 ≡ 0 → Fitted (Stretches F g.channels past) (hold g l) l (starts g.delays r (hold g l) p) a
-  -- refused by none of the codes 3 to 6, and no gap on any channel fits at any start tried
-  pub seven : (get_or a 0 0 ≡ 7) ↔ ((booking_code g (floor_of F past) r l p ≡ 0) × NothingFits (Stretches F g.channels past) g r l p)
-
-abbrev pub Plain : Settings → (F : ℕ) → List Event → Order → (numbers : List ℕ) → Type 0
-Plain g F past (booking r l p) a = Plainly g F past r l p a
-Plain g F past (sweep moment) a = Unit {0}
 
 right_plain : (g : Settings) (F : ℕ) (past : List Event) (o : Order) (a : List ℕ) → Right g F past o a → Plain g F past o a
 right_plain g F past (booking r l p) a R = record { accepted = booked_is_fit g F past r l p a R; seven = seven_is_none g F past r l p a R }

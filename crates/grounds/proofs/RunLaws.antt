@@ -1,7 +1,7 @@
 -- A run is its single orders one after the other; where it ends; that it leaves a sound link sound.
 -- 01, What comes back: "A run returns the code that ended it (0 at its end), that place (then its length) and the number of records answered."
 use Rattle.std.specs.Prelude.{◌≡◌, refl, ◌⊎◌, ◌≢◌, List, [], ◌∷◌, ℕ, zero, suc, ◌+◌, ◌*◌, ◌-◌, ◌≤◌, ◌<◌, length, get_or, drop}
-use Rattle.std.proofs.Common.{sym, ◌∙◌, ap, subst, inl, inr, arith, length-drop, drop-drop}
+use Rattle.std.proofs.Common.{◌∙◌, ap, inl, inr, arith, length-drop, drop-drop}
 use Rattle.numbers.specs.Case.{case_le}
 use Rattle.tally.specs.declared.Tally.{Tally}
 use Rattle.rule.specs.Order.{Order}

@@ -4,9 +4,11 @@ pub mod Session
 pub mod Ends
 pub mod Answered
 -- The promises in other words: each door in full; by the rule between meanings, in three sentences, on the tree in the memory; 01's session.
+pub mod Doors
 pub mod Right
+pub mod Plain
 pub mod InFull
--- The laws that they rest on.
+-- The laws that they rest on. Those that an edit of must-fail/ breaks, and what follows from them, are in proofs/.
 pub mod RecordLaws
 pub mod ReplyLaws
 pub mod TallyLaws

@@ -1,7 +1,7 @@
 -- The tally of a run: which count each order raises, and the sum.
 -- 01, What comes back: "An order acted on raises exactly one count"; "While no count is at its top, the sum rises by the orders acted on."
 use Rattle.std.specs.Prelude.{◌≡◌, refl, ◌≢◌, List, [], ◌∷◌, ◌++◌, ℕ, zero, suc, ◌+◌, ◌<◌, length, get_or, take, drop}
-use Rattle.std.proofs.Common.{sym, ◌∙◌, ap, subst, arith}
+use Rattle.std.proofs.Common.{sym, ◌∙◌, ap, arith}
 use Rattle.tally.specs.declared.Tally.{Tally}
 use Rattle.rule.specs.Order.{Order}
 use Rattle.tally.specs.Counts.{rows, counts, highest, row_of, row_if, row_at, raised, sum}

@@ -9,7 +9,7 @@ use Prim.Native.Nat.{ℕ, ◌≤◌}
 use Rattle.rule.specs.Moments.{last_moment}
 use Rattle.rule.specs.Settings.{Settings, in_bounds}
 use Rattle.rule.specs.Codes.{first_code}
-use Rattle.rule.specs.Order.{Order, booking, sweep}
+use Rattle.rule.specs.Order.{booking, sweep}
 use Rattle.rule.specs.declared.answer.Answer.{Answer}
 use Rattle.state.specs.State.{State}
 use Rattle.state.specs.Sound.{Sound}

@@ -2,13 +2,12 @@
 use mathlib.Core.Path.{◌≡◌, refl, sym, ap, ◌∙◌}
 use mathlib.Core.Logic.{inl, inr}
 use mathlib.Core.List.{List}
-use Prim.Native.Nat.{ℕ, zero, suc, ◌+◌, ◌*◌, ◌≤◌, ◌<◌}
+use Prim.Native.Nat.{ℕ, zero, suc, ◌+◌, ◌*◌, ◌≤◌}
 use native.Mathlib.Omega.{arith}
 use lib.ListN.{length, take, length-take}
-use Rattle.numbers.specs.Case.{pick, case_le}
+use Rattle.numbers.specs.Case.{case_le}
 use Rattle.digits.specs.Digits.{field}
 use Rattle.digits.proofs.DigitLaws.{field_front}
-use Rattle.rule.specs.Order.{booking, sweep}
 use Rattle.order.specs.declared.Record.{Record}
 use Rattle.order.specs.Records.{Reading, unread, opening, order, whole, delays_at, opening_of, booking_of, compact_of, sweep_of, by_mark, reading, used_by, opening_only}
 use Rattle.order.specs.Kinds.{by_mark_lem}

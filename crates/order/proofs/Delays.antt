@@ -1,10 +1,10 @@
 -- The delays of an opening, read one by one into an array: after i of them the first i are the record's.
-use mathlib.Core.Path.{◌≡◌, refl, sym, ◌∙◌}
+use mathlib.Core.Path.{◌≡◌, sym, ◌∙◌}
 use mathlib.Core.Logic.{inl, inr}
 use mathlib.Core.List.{List}
 use Prim.Native.Nat.{ℕ, ◌+◌, ◌*◌, ◌≤◌, ◌<◌}
 use native.Mathlib.Omega.{arith}
-use lib.ListN.{length, take, get_or, set, length-set, length-take}
+use lib.ListN.{length, take, get_or, set, length-take}
 use lib.Seq.{ext_get_or, get_or-take, get_or-set_same, get_or-set_other}
 use Rattle.numbers.specs.Case.{case_eq}
 use Rattle.order.specs.Records.{delays_at}

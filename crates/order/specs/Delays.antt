@@ -1,7 +1,7 @@
 -- The delays of an opening one by one: what `delay` reads is the list that `reading` speaks of.
-use Rattle.std.specs.Prelude.{◌≡◌, refl, List, [], ◌∷◌, ℕ, zero, suc, ◌+◌, ◌*◌, ◌≤◌, ◌<◌, length, get_or}
-use Rattle.std.proofs.Common.{ap, ◌∙◌, inl, inr, arith}
-use Rattle.numbers.specs.Case.{pick, case_le}
+use Rattle.std.specs.Prelude.{◌≡◌, refl, List, ℕ, zero, suc, ◌+◌, ◌*◌, ◌≤◌, ◌<◌, length, get_or}
+use Rattle.std.proofs.Common.{ap, inl, inr, arith}
+use Rattle.numbers.specs.Case.{case_le}
 use Rattle.digits.specs.Digits.{field}
 use Rattle.order.specs.Records.{delays_at}
 use Rattle.order.specs.Read.{delay_of}

@@ -3,7 +3,7 @@ use Rattle.std.specs.Prelude.{◌≡◌, refl, Bool, true, false, List, ℕ, ◌
 use Rattle.std.proofs.Common.{inl, inr, arith}
 use Rattle.numbers.specs.Case.{pick, case_le}
 use Rattle.digits.specs.Digits.{field}
-use Rattle.order.specs.Records.{Reading, unread, opening, order, whole, opening_of, booking_of, compact_of, sweep_of, by_mark, reading, used_by}
+use Rattle.order.specs.Records.{Reading, unread, opening, order, whole, opening_of, booking_of, compact_of, sweep_of, by_mark, reading}
 
 abbrev pub Kind : Reading → Type 0
 Kind (unread x) = x ≡ 11

@@ -1,6 +1,6 @@
 -- Records (01, Records): what the bytes at the start of a buffer say, on plain lists of bytes.
 -- This file knows nothing of the code; Read.antt joins the two.
-use Rattle.std.specs.Prelude.{List, [], ◌∷◌, Bool, ℕ, zero, suc, ◌+◌, ◌*◌, leb, eqb, length}
+use Rattle.std.specs.Prelude.{List, [], ◌∷◌, ℕ, zero, suc, ◌+◌, ◌*◌, leb, eqb, length}
 use Rattle.numbers.specs.Case.{pick}
 use Rattle.digits.specs.Digits.{field}
 use Rattle.rule.specs.Order.{Order, booking, sweep}

@@ -3,13 +3,11 @@
 -- read (docs/PROMISES.md): of memory that only these calls have changed it always holds (grounds' `always_whole`).
 use Rattle.std.specs.Prelude.{◌≡◌, refl, ◌↔◌, Bool, true, false, List, [], ℕ, ◌+◌, ◌*◌, ◌-◌, ◌≤◌, leb}
 use Rattle.std.proofs.Common.{sym, ◌∙◌, ap, subst, inl, inr, arith}
-use Rattle.std.proofs.lemmas.Bool.{false≢true}
 use lib.ListN.{length, drop}
 use Rattle.numbers.specs.Case.{pick, case_le}
 use Rattle.numbers.specs.Words.{Bytes}
 use Rattle.tally.specs.declared.Tally.{Tally}
 use Rattle.rule.specs.Settings.{settings, in_bounds}
-use Rattle.rule.specs.Answer.{numbers_of}
 use Rattle.order.specs.Records.{Reading, Opening, unread, opening, order, reading}
 use Rattle.memory.specs.Header.{need}
 use Rattle.memory.specs.Holds.{Whole}

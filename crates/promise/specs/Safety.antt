@@ -1,7 +1,7 @@
 -- Demand 1, one theorem for each public call, for every byte string and every memory. That a call ends and touches nothing but what it is lent
 -- is proved of its code; here: its codes, that a refusal changes no byte, that nothing past the need is written. In full: grounds' Doors.antt.
 use Rattle.std.specs.Prelude.{◌≡◌, ◌⊎◌, ◌≢◌, List, ℕ, ◌+◌, ◌*◌, ◌≤◌, ◌<◌, length, get_or, drop}
-use Rattle.std.proofs.Common.{sym, ◌∙◌, ap, inl, inr, arith, length-drop, ext_get_or, get_or-drop}
+use Rattle.std.proofs.Common.{sym, ◌∙◌, inl, inr, arith, length-drop, ext_get_or, get_or-drop}
 use Rattle.numbers.specs.Words.{Bytes, word}
 use Rattle.tally.specs.declared.Tally.{Tally}
 use Rattle.memory.specs.Header.{need}
@@ -13,7 +13,7 @@ use Rattle.calls.specs.declared.tell.Told.{Told}
 use Rattle.calls.specs.Opens.{Opens}
 use Rattle.running.specs.Runs.{Runs}
 use Rattle.calls.specs.Calls.{Acts, Tells}
-use Rattle.grounds.specs.Sevens.{AllRefused, all_refused}
+use Rattle.grounds.specs.Sevens.{all_refused}
 use Rattle.grounds.proofs.Doors.{open_door, act_door, run_door, tell_door}
 
 -- a call has left the memory m as m'. Refused: nothing was accepted; n: what the link needs

@@ -13,7 +13,7 @@ use Rattle.rule.specs.Answer.{Reply}
 use Rattle.rule.specs.Rule.{Rule}
 use Rattle.rule.specs.Height.{Allowed, allowed_one}
 use Rattle.rule.specs.Single.{OneEnd, rule_one}
-use Rattle.rule.specs.Left.{void, replaced_is, swept_is}
+use Rattle.rule.specs.Left.{replaced_is, swept_is}
 use Rattle.rule.specs.Edges.{settings, Answers, alike, later, opened, three, since, delays, OnTheEdge}
 
 answers : (M : Meaning) (o : Order) (y : Reply) (N : Meaning) → OneEnd (Has M.voids) → Rule M o y N → Answers M o y N
@@ -108,4 +108,3 @@ on_the_edge = record {
     only_height 4 4 (record { whole = 2; log = omega arith; twice = refl }),
   );
 }
-

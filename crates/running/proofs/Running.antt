@@ -1,6 +1,6 @@
 -- The run so far: what the loop over the records keeps, where it begins, what a record adds, and what the run is where it stops.
 use mathlib.Core.Path.{◌≡◌, refl, sym, ap, ap₂, ◌∙◌, subst}
-use mathlib.Core.Logic.{inl, inr}
+use mathlib.Core.Logic.{inl}
 use mathlib.Core.List.{List, [], ◌∷◌, ◌++◌, append_assoc, append-nil}
 use Prim.Native.Nat.{ℕ, zero, suc, ◌+◌, ◌*◌, ◌-◌, ◌≤◌, ◌<◌}
 use native.Mathlib.Omega.{arith}
@@ -8,25 +8,24 @@ use borrow.Author.Tests.{le-leb, lt-leb}
 use lib.ListN.{length, take, drop, length-append, length-drop, take-append-drop, drop_of_length-le}
 use lib.Seq.{take_all, sets, sets-eq, length-sets, take_at, drop_at, drop-drop, length-take-le}
 use Rattle.tally.specs.declared.Tally.{Tally}
-use Rattle.rule.specs.declared.answer.Answer.{Answer}
 use Rattle.rule.specs.Order.{Order}
 use Rattle.rule.specs.Answer.{seven, numbers_of}
 use Rattle.tally.specs.Counts.{row_of, raised}
-use Rattle.order.specs.Records.{Reading, unread, opening, order, reading, used_by}
+use Rattle.order.specs.Records.{Reading, unread, opening, order, reading}
 use Rattle.order.specs.Kinds.{Kind, kind}
 use Rattle.order.proofs.Alone.{inside}
 use Rattle.state.specs.State.{State}
-use Rattle.state.specs.Act.{Outcome, act}
+use Rattle.state.specs.Act.{act}
 use Rattle.state.specs.Sound.{Sound}
 use Rattle.state.specs.SettingsLaws.{act_settings}
 use Rattle.memory.specs.Holds.{Holds, Whole, After}
 use Rattle.memory.proofs.Whole.{after_none, after_then}
 use Rattle.stepping.specs.declared.Single.{Single}
-use Rattle.stepping.specs.Step.{Stepped, step_on}
+use Rattle.stepping.specs.Step.{step_on}
 use Rattle.stepping.specs.Steps.{StepsOn, Steps}
 use Rattle.running.specs.declared.RunDone.{RunDone}
 use Rattle.running.specs.Run.{Ran, ended, answered, onward, run_from, run_on, flat}
-use Rattle.running.specs.Runs.{Gives, RunsTo, Runs, RunsNot}
+use Rattle.running.specs.Runs.{Runs}
 
 -- what is said of y, said of what is equal to it
 pub runs_as : (t : Tally) (bytes m m' out out' : List ℕ) (x y : RunDone) → x ≡ y → Runs t bytes y m m' out out' → Runs t bytes x m m' out out'

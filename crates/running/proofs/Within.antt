@@ -13,7 +13,7 @@ use Rattle.order.specs.Records.{Reading, unread, opening, order, reading}
 use Rattle.state.specs.State.{State}
 use Rattle.state.specs.Act.{act}
 use Rattle.running.specs.declared.RunDone.{RunDone}
-use Rattle.running.specs.Run.{Ran, onward, run_from, run_on}
+use Rattle.running.specs.Run.{Ran, onward, run_from}
 use Rattle.running.specs.Runs.{Runs}
 
 onward_fits : (s : State) (t : Tally) (room place : ℕ) (x : Reading) (f : (used : ℕ) → Order → Ran) → ((used : ℕ) (o : Order) → 7 * length (f used o).answers ≤ room) → 7 * length (onward s t place x f).answers ≤ room

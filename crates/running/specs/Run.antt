@@ -3,11 +3,11 @@ use Rattle.std.specs.Prelude.{List, [], ◌∷◌, ◌++◌, ℕ, zero, suc, ◌
 use Rattle.numbers.specs.Case.{pick}
 use Rattle.tally.specs.declared.Tally.{Tally}
 use Rattle.rule.specs.Order.{Order}
-use Rattle.rule.specs.Answer.{Reply, seven}
+use Rattle.rule.specs.Answer.{seven}
 use Rattle.tally.specs.Counts.{row_of, raised}
 use Rattle.order.specs.Records.{Reading, unread, opening, order, reading}
 use Rattle.state.specs.State.{State}
-use Rattle.state.specs.Act.{Outcome, act}
+use Rattle.state.specs.Act.{act}
 
 pub record Ran : Type 0 where
   pub state : State

@@ -1,17 +1,17 @@
 -- The steps of the descent, from a node whose tree stands in memory.
 -- What the code has of the child that it goes to makes what its caller is told.
-use mathlib.Core.Path.{◌≡◌, refl, ap, ◌∙◌}
+use mathlib.Core.Path.{◌≡◌, refl, ◌∙◌}
 use mathlib.Core.Logic.{inl, inr}
 use mathlib.Core.Bool.{Bool, true, false, not}
 use mathlib.Core.List.{List}
-use Prim.Native.Nat.{ℕ, suc, ◌+◌, ◌/◌, ◌≤◌, ◌<◌}
+use Prim.Native.Nat.{ℕ, suc, ◌+◌, ◌≤◌, ◌<◌}
 use native.Mathlib.Decide.{ℕ_discrete}
 use native.Mathlib.Omega.{arith}
 use lib.Dec.{leb}
 use lib.ListN.{length, get_or, set, length-set}
 use lib.Seq.{get_or-set_same}
 use Rattle.numbers.specs.Case.{pick, case_le}
-use Rattle.shape.specs.Tree.{Tree, height, top}
+use Rattle.shape.specs.Tree.{Tree, top}
 use Rattle.shape.specs.Side.{near}
 use Rattle.shape.specs.FindLaws.{descended_most}
 use Rattle.node.specs.declared.Node.{Node}

@@ -12,7 +12,7 @@ use lib.Seq.{get_or-set_same}
 use Rattle.numbers.specs.Case.{pick, case_le, case_lt}
 use Rattle.rule.specs.Key.{per_tick, key_before, key_after}
 use Rattle.shape.specs.Tree.{Tree, leaf, node, height, lo, top}
-use Rattle.shape.specs.Visits.{path, reached, Deepest, unmarked, marked}
+use Rattle.shape.specs.Visits.{path, Deepest, unmarked, marked}
 use Rattle.shape.specs.Walk.{OnWay, way_root, way_right, way_left}
 use Rattle.shape.specs.SearchLaws.{search_visits}
 use Rattle.node.specs.declared.Node.{Node}

@@ -1,6 +1,6 @@
 -- What was accepted fixes a link, the tree's arrangement included: two links made of one opening with one history are one.
 -- So the tree on which an order is counted (01, The tree and its visits) is the history's, whoever asks and however the orders came.
-use Rattle.std.specs.Prelude.{◌≡◌, refl, true, List, [], ◌∷◌, ℕ, zero, suc, ◌+◌, ◌≤◌, ◌<◌}
+use Rattle.std.specs.Prelude.{◌≡◌, refl, true, List, [], ◌∷◌, ℕ, zero, suc, ◌≤◌, ◌<◌}
 use Rattle.std.proofs.Common.{sym, ◌∙◌, subst, inl, inr, arith}
 use Rattle.numbers.specs.Case.{case_le, case_eq}
 use Rattle.rule.specs.Moments.{last_moment}
@@ -21,7 +21,7 @@ use Rattle.state.specs.Sound.{Sound, most_key}
 use Rattle.state.specs.History.{Event, books, sweeps, held, floor_of}
 use Rattle.state.specs.Life.{event, Life, born, next, live}
 use Rattle.state.specs.FoundLaws.{booking_goes, case_full, Fair, Found, booking_found}
-use Rattle.state.specs.Range.{InRange, AllInRange}
+use Rattle.state.specs.Range.{AllInRange}
 use Rattle.state.proofs.WholeLaws.{lives_sound}
 use Rattle.state.proofs.HistoryLaws.{Lived, live_lives, fresh_lived}
 

@@ -1,5 +1,5 @@
 -- A sweep keeps what every order keeps: it drops the voids that do not stay, and no others.
-use Rattle.std.specs.Prelude.{◌≡◌, refl, List, ◌++◌, ℕ, ◌+◌, ◌≤◌, ◌<◌}
+use Rattle.std.specs.Prelude.{◌≡◌, refl, List, ◌++◌, ℕ, ◌≤◌}
 use Rattle.std.proofs.Common.{inl, inr, arith, length-append}
 use Rattle.numbers.specs.Case.{pick, case_le}
 use Rattle.rule.specs.Moments.{open_end, last_moment}
@@ -13,7 +13,7 @@ use Rattle.state.specs.State.{State, with_tree}
 use Rattle.state.specs.Act.{to_drop, cleared}
 use Rattle.state.specs.Sound.{most_key}
 use Rattle.state.specs.Places.{Placed}
-use Rattle.state.specs.Cover.{cov, cover}
+use Rattle.state.specs.Cover.{cov}
 use Rattle.state.proofs.TickLaws.{cov_no}
 use Rattle.state.specs.Bordered.{Bordered, Kept}
 use Rattle.state.proofs.LongestLaws.{bordered}

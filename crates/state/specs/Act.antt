@@ -1,8 +1,7 @@
 -- What an order does to a state: the answer, its count, and the state after, as one total function.
 -- The search is the published one (shape's Visits), so the count is the published count by definition.
-use Rattle.std.specs.Prelude.{List, [], ◌∷◌, ◌++◌, Bool, true, false, ℕ, zero, suc, ◌+◌, leb}
+use Rattle.std.specs.Prelude.{List, [], ◌∷◌, ◌++◌, ℕ, zero, suc, ◌+◌}
 use Rattle.numbers.specs.Case.{pick}
-use Rattle.rule.specs.Settings.{Settings}
 use Rattle.rule.specs.Fit.{hold, free}
 use Rattle.rule.specs.Starts.{Start, starts}
 use Rattle.rule.specs.Choice.{Choice, nothing, taken}
@@ -12,7 +11,7 @@ use Rattle.rule.specs.Answer.{Reply, booked, swept, refused}
 use Rattle.rule.specs.Codes.{booking_code, sweep_code, chosen_reply}
 use Rattle.rule.specs.Key.{key_of, start_of, channel_of}
 use Rattle.shape.specs.Tree.{Tree, size, weight}
-use Rattle.shape.specs.Visits.{Out, none, some, Result, published}
+use Rattle.shape.specs.Visits.{Out, none, some, published}
 use Rattle.shape.specs.Clear.{Rest, gone, rest, clear, freed}
 use Rattle.state.specs.State.{State, with_tree, shorten, add, drop, with_floor}
 

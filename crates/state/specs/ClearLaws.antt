@@ -1,6 +1,6 @@
 -- What clearing a tree comes to (shape's Clear): the leaves that end at the bound or later, no others, in their order; balanced; and every
 -- place is in what is left, or among those that come free.
-use Rattle.std.specs.Prelude.{◌≡◌, refl, ◌⊎◌, List, [], ◌∷◌, ◌++◌, ℕ, suc, ◌+◌, ◌≤◌, ◌<◌, leb, length}
+use Rattle.std.specs.Prelude.{◌≡◌, refl, List, [], ◌∷◌, ◌++◌, ℕ, ◌+◌, ◌≤◌, ◌<◌, leb, length}
 use Rattle.std.proofs.Common.{sym, ap, ap₂, ◌∙◌, append-nil, arith, length-append}
 use Rattle.std.proofs.Math.Logic.{inl, inr}
 use Rattle.numbers.specs.Case.{pick, case_le}
@@ -9,7 +9,7 @@ use Rattle.shape.specs.TreeLaws.{all_map, all_of, low_all}
 use Rattle.shape.specs.PlaceLaws.{size_weight}
 use Rattle.shape.specs.Rising.{Rising, rising_from, ord_rising, rising_ord}
 use Rattle.shape.specs.Clear.{join, Rest, gone, rest, meet, clear, unused, freed}
-use Rattle.shape.specs.JoinLaws.{Met, join_ok}
+use Rattle.shape.specs.JoinLaws.{join_ok}
 use Rattle.state.specs.LeafLaws.{mark, mark_is, in_mark, mark_in}
 use Rattle.state.specs.Sound.{among}
 

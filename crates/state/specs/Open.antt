@@ -4,7 +4,7 @@ use Rattle.std.specs.Prelude.{List, [], ◌∷◌, ℕ, zero, suc, ◌+◌}
 use Rattle.rule.specs.Moments.{open_end}
 use Rattle.rule.specs.Settings.{Settings}
 use Rattle.rule.specs.Key.{key_of}
-use Rattle.shape.specs.Tree.{Tree, leaf}
+use Rattle.shape.specs.Tree.{leaf}
 use Rattle.state.specs.State.{State, add}
 
 -- n places, from p on

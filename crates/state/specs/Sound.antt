@@ -1,8 +1,8 @@
 -- The rules of a whole link that do not speak of bytes (01, What comes back, code 2), item by item.
-use Rattle.std.specs.Prelude.{◌≡◌, true, List, [], ◌∷◌, ℕ, suc, ◌+◌, ◌*◌, ◌-◌, ◌^◌, ◌≤◌, ◌<◌, ltb, length}
+use Rattle.std.specs.Prelude.{◌≡◌, true, List, [], ◌∷◌, ℕ, ◌+◌, ◌*◌, ◌≤◌, ◌<◌, ltb, length}
 use Rattle.numbers.specs.Case.{pick}
 use Rattle.rule.specs.Moments.{open_end, last_moment}
-use Rattle.rule.specs.Settings.{Settings, in_bounds}
+use Rattle.rule.specs.Settings.{in_bounds}
 use Rattle.rule.specs.Kept.{stays}
 use Rattle.rule.specs.Key.{start_of, channel_of, per_tick}
 use Rattle.shape.specs.Tree.{Tree, size, HeightRule, Balanced, Ord, In, All, same, uses}

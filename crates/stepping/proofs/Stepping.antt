@@ -1,13 +1,11 @@
 -- From what the reader, the booking and the sweep promise to what a step promises, case by case.
 use mathlib.Core.Path.{◌≡◌, refl, sym, ap, ◌∙◌}
-use mathlib.Core.Logic.{inl, inr}
 use mathlib.Core.Bool.{Bool, true, false}
-use mathlib.Core.List.{List, [], ◌∷◌}
-use Prim.Native.Nat.{ℕ, zero, suc, ◌+◌, ◌*◌, ◌-◌, ◌≤◌, ◌<◌}
+use mathlib.Core.List.{List}
+use Prim.Native.Nat.{ℕ, zero, suc, ◌+◌, ◌-◌, ◌≤◌}
 use native.Mathlib.Omega.{arith}
 use borrow.Author.Tests.{ne_eqb}
-use lib.Dec.{eqb}
-use lib.ListN.{length, get_or}
+use lib.ListN.{get_or}
 use Rattle.numbers.specs.Case.{pick}
 use Rattle.tally.specs.declared.Tally.{Tally}
 use Rattle.rule.specs.declared.answer.Answer.{Answer}
@@ -26,7 +24,7 @@ use Rattle.order.specs.Records.{Reading, order, reading}
 use Rattle.order.specs.Read.{meant, Narrow, Reads}
 use Rattle.shape.specs.Tree.{size}
 use Rattle.state.specs.State.{State}
-use Rattle.state.specs.Act.{Outcome, seek, choice, book_as, sweep_as, act}
+use Rattle.state.specs.Act.{seek, choice, book_as, sweep_as, act}
 use Rattle.state.specs.Sound.{Sound}
 use Rattle.state.specs.Range.{InRange}
 use Rattle.state.proofs.SoundLaws.{act_sound}

@@ -2,7 +2,7 @@
 use mathlib.Core.Path.{◌≡◌, refl, sym, ap, ◌∙◌}
 use mathlib.Core.Bool.{Bool, true, false, false≢true}
 use mathlib.Core.List.{List}
-use Prim.Native.Nat.{ℕ, ◌+◌, ◌*◌, min, max}
+use Prim.Native.Nat.{ℕ, ◌+◌, min, max}
 use native.Mathlib.Omega.{arith}
 use Rattle.shape.specs.Side.{near, far}
 use Rattle.node.specs.declared.Node.{Node}

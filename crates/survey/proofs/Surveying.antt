@@ -5,7 +5,7 @@ use mathlib.Core.List.{List}
 use Prim.Native.Nat.{ℕ, ◌+◌, ◌*◌, ◌-◌, ◌/◌, ◌<◌, ◌≤◌}
 use native.Mathlib.Decide.{dec_lt}
 use native.Mathlib.Omega.{arith}
-use Rattle.shape.specs.Tree.{Tree, leaf, node, height, size, uses}
+use Rattle.shape.specs.Tree.{Tree, leaf, node, size, uses}
 use Rattle.shape.specs.TreeLaws.{size_some}
 use Rattle.shape.specs.PlaceLaws.{same_is, uses_place}
 use Rattle.node.specs.declared.Node.{Node}

@@ -4,15 +4,14 @@ use mathlib.Core.Path.{◌≡◌, refl, sym, ap, ◌∙◌}
 use mathlib.Core.Logic.{inl, inr}
 use mathlib.Core.Bool.{Bool, true, false}
 use mathlib.Core.List.{List}
-use Prim.Native.Nat.{ℕ, zero, suc, ◌+◌, ◌*◌, ◌≤◌, ◌<◌}
+use Prim.Native.Nat.{ℕ, zero, suc, ◌+◌, ◌*◌, ◌≤◌}
 use native.Mathlib.Omega.{arith}
 use lib.Dec.{ltb}
 use lib.ListN.{get_or}
 use Rattle.numbers.specs.Case.{case_le}
 use Rattle.shape.specs.Tree.{Tree, leaf, node, height, lo}
-use Rattle.shape.specs.Side.{near, far}
+use Rattle.shape.specs.Side.{near}
 use Rattle.shape.specs.Arrange.{set_end}
-use Rattle.node.specs.declared.Node.{Node}
 use Rattle.node.specs.Layout.{node_at}
 use Rattle.node.specs.Rep.{Stands}
 use Rattle.node.proofs.Reps.{tall}

@@ -1,6 +1,6 @@
 -- The way from a root down to the leaf that a key leads to, as a list of seats;
 -- and what noting it asks and promises.
-use Rattle.std.specs.Prelude.{◌≡◌, List, ℕ, suc, ◌+◌, ◌*◌, ◌≤◌, ◌<◌, ltb, length, get_or}
+use Rattle.std.specs.Prelude.{◌≡◌, List, ℕ, suc, ◌+◌, ◌≤◌, ◌<◌, ltb, length, get_or}
 use Rattle.shape.specs.Side.{near}
 use Rattle.node.specs.Layout.{node_at}
 use Rattle.node.specs.Paths.{longest_way}

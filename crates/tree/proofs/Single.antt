@@ -1,12 +1,12 @@
 -- The contracts leave one answer and one content of the memory: any two outcomes allowed are equal.
 -- `Bytes m` is what lent memory always is.
-use mathlib.Core.Path.{◌≡◌, sym, ◌∙◌}
+use mathlib.Core.Path.{◌≡◌}
 use mathlib.Core.Logic.{◌⊎◌, inl, inr}
 use mathlib.Core.List.{List}
 use Prim.Native.Nat.{ℕ, ◌+◌, ◌/◌, ◌≤◌}
 use native.Mathlib.Decide.{ℕ_discrete}
 use native.Mathlib.Omega.{arith}
-use Rattle.shape.specs.Tree.{Tree, height, same, uses}
+use Rattle.shape.specs.Tree.{Tree, same, uses}
 use Rattle.shape.specs.PlaceLaws.{same_other}
 use Rattle.shape.specs.ChangeLaws.{weight_insert, weight_set}
 use Rattle.numbers.specs.Words.{Bytes}

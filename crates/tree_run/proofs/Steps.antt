@@ -7,7 +7,7 @@ use native.Mathlib.Omega.{arith}
 use native.Mathlib.Decide.{ℕ_discrete}
 use lib.ListN.{length}
 use Rattle.numbers.specs.Case.{case_le}
-use Rattle.shape.specs.Tree.{Tree, leaf, node, height, size, same, uses}
+use Rattle.shape.specs.Tree.{Tree, leaf, node, height, same, uses}
 use Rattle.shape.specs.Arrange.{insert, remove, above, set_end}
 use Rattle.shape.specs.PlaceLaws.{same_self, same_other, same_most}
 use Rattle.shape.specs.ChangeLaws.{weight_insert, weight_remove, weight_set, height_remove}

@@ -2,10 +2,10 @@
 use mathlib.Core.Path.{◌≡◌, refl}
 use mathlib.Core.Bool.{true, false}
 use mathlib.Core.List.{List}
-use Prim.Native.Nat.{ℕ, ◌+◌, ◌*◌, ◌/◌, ◌<◌, ◌≤◌}
+use Prim.Native.Nat.{ℕ, ◌+◌, ◌*◌, ◌<◌, ◌≤◌}
 use native.Mathlib.Omega.{arith}
 use borrow.Author.Tests.{le-leb, lt-leb}
-use Rattle.shape.specs.Tree.{Tree, node, height, same, uses}
+use Rattle.shape.specs.Tree.{Tree, height}
 use Rattle.shape.specs.Arrange.{balance}
 use Rattle.node.specs.declared.Node.{Node}
 use Rattle.node.specs.Layout.{node_at, Over, Mendable}

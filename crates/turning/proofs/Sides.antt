@@ -9,7 +9,7 @@ use native.Mathlib.Omega.{arith}
 use Rattle.shape.specs.Tree.{Tree, node, height, same, uses}
 use Rattle.shape.specs.Side.{over, near, far}
 use Rattle.node.specs.declared.Node.{Node}
-use Rattle.node.specs.Layout.{half_word, highest, Within, Fits, node_at, leaf_node, Saved, Over, Copied, Mendable}
+use Rattle.node.specs.Layout.{half_word, highest, Within, Fits, leaf_node, Saved, Over, Copied, Mendable}
 use Rattle.node.specs.Rep.{Stands}
 use Rattle.shape.specs.SideLaws.{weight_over, weight_sides}
 use Rattle.shape.specs.PlaceLaws.{same_self, same_other, same_none}

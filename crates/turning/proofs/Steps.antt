@@ -6,9 +6,8 @@ use mathlib.Core.Bool.{Bool}
 use mathlib.Core.List.{List}
 use Prim.Native.Nat.{ℕ, ◌+◌, ◌*◌, ◌/◌, ◌≤◌, max}
 use native.Mathlib.Omega.{arith}
-use Rattle.shape.specs.Tree.{Tree, node, height, same, uses}
+use Rattle.shape.specs.Tree.{Tree, height, same, uses}
 use Rattle.shape.specs.Side.{over}
-use Rattle.shape.specs.Arrange.{turn}
 use Rattle.node.specs.Layout.{highest, Within, Kept, Over, Copied, Mendable}
 use Rattle.node.specs.Rep.{Stands}
 use Rattle.shape.specs.SideLaws.{height_over}

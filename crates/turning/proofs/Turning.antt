@@ -19,7 +19,7 @@ use Rattle.node.proofs.Frames.{kept_less}
 use Rattle.node.proofs.Reps.{tall, within}
 use Rattle.node.proofs.Seats.{near_of, far_of, near_seat, far_seat, near_half, near_is, far_is, near_stands, far_stands, reads_height, Parts, parts}
 use Rattle.turning.specs.Turns.{Two, Both, Arranged, Turns}
-use Rattle.turning.proofs.Sides.{uses_over, uses_sides, apart, copied_at, over_at, mendable_at, within_at}
+use Rattle.turning.proofs.Sides.{uses_over, uses_sides, copied_at, over_at, mendable_at, within_at}
 use Rattle.turning.proofs.Steps.{Single, mend1, mend2, single_end, Double, e1, high1, mend_x, mend_w, mend_y, double_end}
 
 -- ---- the high tree taken apart by what was read

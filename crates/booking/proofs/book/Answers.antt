@@ -1,4 +1,3 @@
-use borrow.Author.Rules.{rules}
 use native.Mathlib.Omega.{arith}
 use borrow.Author.Tests.{not-false}
 use Rattle.booking.proofs.Booking.{few_lines, refused_early, seek_pre, nothing_fits, free_low, finish_low, no_room, split_pre, done}

@@ -1,8 +1,6 @@
 -- `clearing::below`: what is left of the tree, by what is left of its sides. Assumes nothing.
 use mathlib.Core.Path.{refl, ◌∙◌}
-use Prim.Native.Nat.{ℕ, ◌<◌}
 use native.Mathlib.Omega.{arith}
-use Rattle.node.specs.Layout.{node_at}
 use Rattle.clearing.proofs.Descending.{here, stayed, leaf_went, place_low, down_left, down_right, many_low, seats_in, give_ask, left_went, right_went, join_ask, joined_up}
 use Rattle.clearing.proofs.+below.Goals as goal
 

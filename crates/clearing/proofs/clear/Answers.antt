@@ -1,6 +1,5 @@
 -- `clearing::clear`: the whole tree is cleared, and the header says so. Assumes nothing.
 use native.Mathlib.Omega.{arith}
-use borrow.Author.Rules.{rules}
 use Rattle.clearing.proofs.Sweep.{counts, clearable, in_range, closed_up}
 use Rattle.clearing.proofs.clear.Goals as goal
 

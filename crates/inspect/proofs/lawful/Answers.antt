@@ -1,7 +1,6 @@
 -- `inspect::lawful`: the four rules of a void. Assumes nothing.
 use Rattle.settled.proofs.Saying.{says_is, says_map}
 use native.Mathlib.Omega.{arith}
-use borrow.Author.Rules.{rules}
 use Rattle.inspect.proofs.lawful.Goals as goal
 
 pub returns : goal.returns

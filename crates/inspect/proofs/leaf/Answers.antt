@@ -4,7 +4,6 @@ use native.Mathlib.Omega.{arith}
 use borrow.Author.Tests.{not-true, not-false}
 use Rattle.settled.proofs.Saying.{says_yes, says_no}
 use Rattle.inspect.proofs.Inspecting.{no_leaf, touching, last_leaf}
-use borrow.Author.Rules.{rules}
 use Rattle.inspect.proofs.leaf.Goals as goal
 
 pub returns-then-not-single : goal.returns-then-not-single

@@ -1,9 +1,6 @@
 -- `joining::hang`: here, or one step down and a balance (Hanging). Assumes nothing.
 use mathlib.Core.Path.{refl, ◌∙◌}
-use Prim.Native.Nat.{ℕ, ◌<◌}
 use native.Mathlib.Omega.{arith}
-use Rattle.node.specs.Layout.{node_at}
-use Rattle.node.proofs.Seats.{near_of}
 use Rattle.summing.proofs.Sums.{read_at}
 use Rattle.turning.proofs.Sides.{both_within, both_small, copied_at}
 use Rattle.turning.proofs.Balancing.{mendable_both}

@@ -1,6 +1,5 @@
 -- `joining::join`: by the heights read, the higher tree takes the lower (Joining). Assumes nothing.
 use mathlib.Core.Bool.{true}
-use borrow.Author.Rules.{rules}
 use Rattle.summing.proofs.Sums.{read_at}
 use Rattle.turning.proofs.Sides.{both_within, both_small}
 use Rattle.joining.proofs.Joining.{joins_left, joins_right}

@@ -1,8 +1,6 @@
 -- `lines::digits`: the digits that are copied are within both arrays. Assumes nothing.
-use Prim.Native.Nat.{◌+◌, ◌-◌, ◌≤◌, zero-le}
-use mathlib.Core.Path.{◌≡◌, refl}
-use lib.ListN.{length}
-use native.Mathlib.Omega.{arith}
+use Prim.Native.Nat.{zero-le}
+use mathlib.Core.Path.{refl}
 use borrow.Author.Rules.{rules}
 use Rattle.lines.proofs.Twenty.{at_most_twenty}
 use Rattle.lines.proofs.digits.Goals as goal

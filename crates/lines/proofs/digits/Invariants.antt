@@ -1,9 +1,6 @@
-use Prim.Native.Nat.{◌+◌, ◌-◌, ◌≤◌, zero-le}
-use mathlib.Core.Path.{◌≡◌, refl}
+use Prim.Native.Nat.{◌+◌, ◌-◌, ◌≤◌}
+use mathlib.Core.Path.{◌≡◌}
 use lib.ListN.{length}
-use native.Mathlib.Omega.{arith}
-use borrow.Author.Rules.{rules}
-use Rattle.lines.proofs.Twenty.{at_most_twenty}
 use Rattle.lines.proofs.digits.Given as goal
 
 abbrev pub invariant-loop-i : goal.invariant-loop-i

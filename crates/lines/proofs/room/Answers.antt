@@ -1,5 +1,4 @@
 -- `lines::room`. Assumes nothing.
-use borrow.Author.Rules.{rules}
 use native.Mathlib.Omega.{arith}
 use lib.ListN.{length-take}
 use Rattle.lines.proofs.room.Goals as goal

@@ -1,6 +1,5 @@
 -- `link_session::booked`. Assumes nothing.
 use Rattle.link_session.proofs.Kept.{booked_whole}
-use borrow.Author.Rules.{rules}
 use Rattle.link_session.proofs.booked.Goals as goal
 
 pub returns : goal.returns

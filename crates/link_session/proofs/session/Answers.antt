@@ -3,7 +3,6 @@ use Prim.Native.Nat.{zero-le}
 use native.Mathlib.Omega.{arith}
 use Rattle.rule.specs.Settings.{settings}
 use Rattle.link_session.proofs.Kept.{opened_whole}
-use borrow.Author.Rules.{rules}
 use Rattle.link_session.proofs.session.Goals as goal
 
 pub play-end-requires : goal.play-end-requires

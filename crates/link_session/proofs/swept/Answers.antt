@@ -1,6 +1,5 @@
 -- `link_session::swept`. Assumes nothing.
 use Rattle.link_session.proofs.Kept.{swept_whole}
-use borrow.Author.Rules.{rules}
 use Rattle.link_session.proofs.swept.Goals as goal
 
 pub returns : goal.returns

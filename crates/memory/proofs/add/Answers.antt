@@ -1,5 +1,4 @@
 -- `memory::add`: by the way that the key leads. Assumes nothing.
-use borrow.Author.Rules.{rules}
 use native.Mathlib.Omega.{arith}
 use Rattle.memory.proofs.Shortening.{alone}
 use Rattle.memory.proofs.add.Goals as goal

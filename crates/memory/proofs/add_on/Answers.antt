@@ -1,5 +1,4 @@
 -- `memory::add_on`: a law of Adding at each program point. Assumes nothing.
-use borrow.Author.Rules.{rules}
 use native.Mathlib.Omega.{arith}
 use Rattle.numbers.proofs.Slices.{whole}
 use Rattle.memory.proofs.Adding.{roomy_led, spare_in, insertable, still_leads, kept_low, added}

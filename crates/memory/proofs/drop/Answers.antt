@@ -1,4 +1,3 @@
-use borrow.Author.Rules.{rules}
 use native.Mathlib.Omega.{arith}
 use Rattle.memory.proofs.Shortening.{kept_is}
 use Rattle.memory.proofs.Dropping.{remove_pre, removal}

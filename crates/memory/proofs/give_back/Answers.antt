@@ -1,4 +1,3 @@
-use borrow.Author.Rules.{rules}
 use native.Mathlib.Omega.{arith}
 use Rattle.memory.proofs.Dropping.{counts, give, dropped}
 use Rattle.memory.proofs.give_back.Goals as goal

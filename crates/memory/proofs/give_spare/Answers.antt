@@ -1,5 +1,4 @@
 -- `memory::give_spare`: the place is the first spare one, and its left node names the one that was. Assumes nothing.
-use borrow.Author.Rules.{rules}
 use native.Mathlib.Omega.{arith}
 use Rattle.memory.proofs.Parts.{gives}
 use Rattle.turning.proofs.Sides.{leaf_fits}

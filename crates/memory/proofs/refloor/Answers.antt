@@ -1,5 +1,4 @@
 -- `memory::refloor` writes one word. Assumes nothing.
-use borrow.Author.Rules.{rules}
 use native.Mathlib.Omega.{arith}
 use Rattle.memory.proofs.Shortening.{refloored}
 use Rattle.memory.proofs.refloor.Goals as goal

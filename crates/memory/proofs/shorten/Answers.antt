@@ -1,5 +1,4 @@
 -- `memory::shorten`: the way noted is the beginning of the key's, and from there on it is the tree's. Assumes nothing.
-use borrow.Author.Rules.{rules}
 use Rattle.memory.proofs.Shortening.{partway, shortened}
 use Rattle.memory.proofs.shorten.Goals as goal
 

@@ -1,5 +1,4 @@
 -- `memory::take_spare`: the first spare place is the answer, the next one becomes the first. Assumes nothing.
-use borrow.Author.Rules.{rules}
 use Rattle.memory.proofs.Parts.{spare_read}
 use Rattle.memory.proofs.take_spare.Goals as goal
 

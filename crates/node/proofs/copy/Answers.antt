@@ -1,5 +1,4 @@
 -- `node::copy`: the four words of one seat are written at the other. Assumes nothing.
-use borrow.Author.Rules.{rules}
 use native.Mathlib.Omega.{arith}
 use Rattle.node.proofs.Nodes.{copied_of}
 use Rattle.node.proofs.copy.Goals as goal

@@ -1,4 +1,3 @@
-use borrow.Author.Rules.{rules}
 use Rattle.node.specs.Layout.{node_at}
 use Rattle.node.proofs.load.Goals as goal
 

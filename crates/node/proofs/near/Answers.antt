@@ -1,4 +1,3 @@
-use borrow.Author.Rules.{rules}
 use Rattle.node.proofs.near.Goals as goal
 
 pub returns-then-left : goal.returns-then-left

@@ -1,5 +1,4 @@
 -- `node::save`: the sums, then height and places. Assumes nothing.
-use borrow.Author.Rules.{rules}
 use native.Mathlib.Omega.{arith}
 use Rattle.node.proofs.Nodes.{saved_of}
 use Rattle.node.proofs.save.Goals as goal

@@ -8,7 +8,6 @@ use Rattle.rule.specs.SettingsLaws.{in_bounds_lem}
 use Rattle.ruling.proofs.Bounding.{broken, holds}
 use Rattle.opening.proofs.Widening.{both}
 use Rattle.opening.proofs.Answering.{bound_broken, too_small, opens}
-use borrow.Author.Rules.{rules}
 use Rattle.opening.proofs.open.Goals as goal
 
 pub returns-then-not-in_bounds : goal.returns-then-not-in_bounds

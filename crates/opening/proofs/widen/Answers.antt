@@ -1,14 +1,7 @@
 -- `opening::widen`: with c channels written, the memory holds the opening's state of c channels. Assumes nothing.
-use mathlib.Core.Path.{◌≡◌, refl, ◌∙◌}
-use Prim.Native.Nat.{◌-◌, ◌≤◌}
-use mathlib.Core.Path.{◌≡◌, refl, ◌∙◌}
-use Prim.Native.Nat.{◌-◌, ◌≤◌}
+use mathlib.Core.Path.{refl, ◌∙◌}
+use mathlib.Core.Path.{refl, ◌∙◌}
 use native.Mathlib.Omega.{arith}
-use lib.ListN.{length}
-use Rattle.rule.specs.Settings.{Settings}
-use Rattle.state.specs.Open.{single, widened, fewer}
-use Rattle.memory.specs.Holds.{After}
-use Rattle.opening.specs.Stages.{Begun}
 use Rattle.opening.proofs.Widening.{limits, begins, ends, roomy, widens}
 use Rattle.opening.proofs.widen.Goals as goal
 

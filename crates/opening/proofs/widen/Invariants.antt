@@ -1,14 +1,12 @@
-use mathlib.Core.Path.{◌≡◌, refl, ◌∙◌}
+use mathlib.Core.Path.{◌≡◌}
 use Prim.Native.Nat.{◌-◌, ◌≤◌}
-use mathlib.Core.Path.{◌≡◌, refl, ◌∙◌}
+use mathlib.Core.Path.{◌≡◌}
 use Prim.Native.Nat.{◌-◌, ◌≤◌}
-use native.Mathlib.Omega.{arith}
 use lib.ListN.{length}
 use Rattle.rule.specs.Settings.{Settings}
 use Rattle.state.specs.Open.{single, widened, fewer}
 use Rattle.memory.specs.Holds.{After}
 use Rattle.opening.specs.Stages.{Begun}
-use Rattle.opening.proofs.Widening.{limits, begins, ends, roomy, widens}
 use Rattle.opening.proofs.widen.Given as goal
 
 abbrev pub invariant-loop-c : goal.invariant-loop-c

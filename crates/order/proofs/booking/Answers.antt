@@ -3,7 +3,6 @@ use mathlib.Core.Path.{refl}
 use native.Mathlib.Omega.{arith}
 use borrow.Author.Tests.{lt-leb, le-leb}
 use Rattle.order.specs.Records.{booking_of}
-use borrow.Author.Rules.{rules}
 use Rattle.order.proofs.booking.Goals as goal
 
 pub returns-then-s-lt14 : goal.returns-then-s-lt14

@@ -3,7 +3,6 @@ use mathlib.Core.Path.{refl}
 use native.Mathlib.Omega.{arith}
 use borrow.Author.Tests.{lt-leb, le-leb}
 use Rattle.order.specs.Records.{compact_of}
-use borrow.Author.Rules.{rules}
 use Rattle.order.proofs.compact.Goals as goal
 
 pub returns-then-s-lt10 : goal.returns-then-s-lt10

@@ -2,7 +2,6 @@
 use native.Mathlib.Omega.{arith}
 use borrow.Author.Tests.{lt-leb, le-leb}
 use Rattle.order.specs.Read.{delay_of}
-use borrow.Author.Rules.{rules}
 use Rattle.order.proofs.delay.Goals as goal
 
 pub returns-then-i-ge256 : goal.returns-then-i-ge256

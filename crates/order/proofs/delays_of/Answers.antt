@@ -1,10 +1,8 @@
 -- `order::delays_of`: after i turns the first i delays are there. Assumes nothing.
-use mathlib.Core.Path.{◌≡◌, refl}
-use Prim.Native.Nat.{ℕ, ◌-◌, ◌≤◌}
+use mathlib.Core.Path.{refl}
 use native.Mathlib.Omega.{arith}
-use borrow.Author.Rules.{rules}
-use lib.ListN.{length, length-set}
-use Rattle.order.proofs.Delays.{First, none_yet, one_more, all_of_them}
+use lib.ListN.{length-set}
+use Rattle.order.proofs.Delays.{none_yet, one_more, all_of_them}
 use Rattle.order.proofs.delays_of.Goals as goal
 
 pub loop-i-init : goal.loop-i-init

@@ -1,9 +1,7 @@
-use mathlib.Core.Path.{◌≡◌, refl}
-use Prim.Native.Nat.{ℕ, ◌-◌, ◌≤◌}
-use native.Mathlib.Omega.{arith}
-use borrow.Author.Rules.{rules}
-use lib.ListN.{length, length-set}
-use Rattle.order.proofs.Delays.{First, none_yet, one_more, all_of_them}
+use mathlib.Core.Path.{◌≡◌}
+use Prim.Native.Nat.{◌-◌, ◌≤◌}
+use lib.ListN.{length}
+use Rattle.order.proofs.Delays.{First}
 use Rattle.order.proofs.delays_of.Given as goal
 
 abbrev pub invariant-loop-i : goal.invariant-loop-i

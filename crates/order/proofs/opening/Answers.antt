@@ -7,7 +7,6 @@ use lib.ListN.{length}
 use borrow.Author.Tests.{lt-leb, le-leb}
 use Rattle.digits.specs.Digits.{field}
 use Rattle.order.specs.Records.{unread, opening_of}
-use borrow.Author.Rules.{rules}
 use Rattle.order.proofs.opening.Goals as goal
 
 -- too short for any opening, and for this one

@@ -7,7 +7,6 @@ use borrow.Author.Tests.{lt-leb, le-leb, ne_eqb}
 use Rattle.digits.specs.Digits.{field}
 use Rattle.order.specs.Records.{unread, by_mark, reading}
 use Rattle.order.proofs.Alone.{reads}
-use borrow.Author.Rules.{rules}
 use Rattle.order.proofs.read.Goals as goal
 
 none : (s : List ℕ) → length s < 2 → unread 11 ≡ reading s

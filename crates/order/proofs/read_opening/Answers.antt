@@ -10,7 +10,6 @@ use Rattle.digits.specs.Digits.{field}
 use Rattle.numbers.specs.Case.{pick}
 use Rattle.order.specs.Records.{Reading, unread, opening_of, booking_of, compact_of, sweep_of, by_mark, reading, opening_only}
 use Rattle.order.proofs.Alone.{reads_opening}
-use borrow.Author.Rules.{rules}
 use Rattle.order.proofs.read_opening.Goals as goal
 
 none : (s : List ℕ) → length s < 2 → unread 11 ≡ opening_only (reading s)

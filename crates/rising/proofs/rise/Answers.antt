@@ -1,12 +1,7 @@
 -- `rising::rise`: on the way up, what has risen so far (Settling). Assumes nothing.
-use mathlib.Core.Path.{◌≡◌, refl, ◌∙◌}
-use Prim.Native.Nat.{ℕ, ◌≤◌}
+use mathlib.Core.Path.{refl, ◌∙◌}
 use native.Mathlib.Omega.{arith}
-use mathlib.Core.List.{List}
-use lib.ListN.{length}
 use Rattle.turning.proofs.Balancing.{mendable_both}
-use Rattle.rising.specs.Changes.{Change}
-use Rattle.rising.specs.Rises.{Turned, Rising}
 use Rattle.rising.proofs.Settling.{both_above, within_above, node_above, rises, rising_settling, risen}
 use Rattle.rising.proofs.rise.Goals as goal
 

@@ -1,12 +1,9 @@
-use mathlib.Core.Path.{◌≡◌, refl, ◌∙◌}
+use mathlib.Core.Path.{◌≡◌}
 use Prim.Native.Nat.{ℕ, ◌≤◌}
-use native.Mathlib.Omega.{arith}
 use mathlib.Core.List.{List}
 use lib.ListN.{length}
-use Rattle.turning.proofs.Balancing.{mendable_both}
 use Rattle.rising.specs.Changes.{Change}
 use Rattle.rising.specs.Rises.{Turned, Rising}
-use Rattle.rising.proofs.Settling.{both_above, within_above, node_above, rises, rising_settling, risen}
 use Rattle.rising.proofs.rise.Given as goal
 
 abbrev pub invariant-loop-i : goal.invariant-loop-i

@@ -1,13 +1,8 @@
 -- `rising::settle`: on the way up, what is settled so far (Settling). Assumes nothing.
-use mathlib.Core.Path.{◌≡◌, refl, ◌∙◌}
-use Prim.Native.Nat.{ℕ, ◌≤◌}
+use mathlib.Core.Path.{refl, ◌∙◌}
 use native.Mathlib.Omega.{arith}
 use borrow.Author.Tests.{not-true}
-use mathlib.Core.List.{List}
-use lib.ListN.{length}
-use Rattle.rising.specs.Changes.{Change}
-use Rattle.rising.specs.Rises.{Settling}
-use Rattle.rising.proofs.Settling.{within_above, summable_above, settles, halts, settled}
+use Rattle.rising.proofs.Settling.{summable_above, settles, halts, settled}
 use Rattle.rising.proofs.settle.Goals as goal
 
 pub loop-i-init : goal.loop-i-init

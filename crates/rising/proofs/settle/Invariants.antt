@@ -1,12 +1,9 @@
-use mathlib.Core.Path.{◌≡◌, refl, ◌∙◌}
+use mathlib.Core.Path.{◌≡◌}
 use Prim.Native.Nat.{ℕ, ◌≤◌}
-use native.Mathlib.Omega.{arith}
-use borrow.Author.Tests.{not-true}
 use mathlib.Core.List.{List}
 use lib.ListN.{length}
 use Rattle.rising.specs.Changes.{Change}
 use Rattle.rising.specs.Rises.{Settling}
-use Rattle.rising.proofs.Settling.{within_above, summable_above, settles, halts, settled}
 use Rattle.rising.proofs.settle.Given as goal
 
 abbrev pub invariant-loop-i : goal.invariant-loop-i

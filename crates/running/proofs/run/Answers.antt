@@ -1,14 +1,12 @@
 -- `running::run`: the run so far is a beginning of the run. Assumes nothing.
 use mathlib.Core.Path.{◌≡◌, refl, ◌∙◌}
 use mathlib.Core.Logic.{inl, inr}
-use Prim.Native.Nat.{ℕ, ◌-◌, ◌≤◌}
+use Prim.Native.Nat.{ℕ, ◌≤◌}
 use native.Mathlib.Omega.{arith}
-use borrow.Author.Rules.{rules}
 use borrow.Author.Tests.{not-true, not-false}
-use lib.ListN.{length}
 use Rattle.numbers.specs.Case.{case_le}
 use Rattle.running.proofs.Deciding.{yes_whole, no_whole}
-use Rattle.running.proofs.Running.{runs_as, Along, start, whole_now, run_done, run_full, run_stuck, turn, from_part}
+use Rattle.running.proofs.Running.{runs_as, start, whole_now, run_done, run_full, run_stuck, turn, from_part}
 use Rattle.running.proofs.run.Goals as goal
 
 nonzero : (n : ℕ) → (n ≡ 0 → ⊥) → 1 ≤ n

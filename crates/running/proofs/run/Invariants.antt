@@ -1,13 +1,6 @@
-use mathlib.Core.Path.{◌≡◌, refl, ◌∙◌}
-use mathlib.Core.Logic.{inl, inr}
-use Prim.Native.Nat.{ℕ, ◌-◌, ◌≤◌}
-use native.Mathlib.Omega.{arith}
-use borrow.Author.Rules.{rules}
-use borrow.Author.Tests.{not-true, not-false}
+use Prim.Native.Nat.{◌-◌}
 use lib.ListN.{length}
-use Rattle.numbers.specs.Case.{case_le}
-use Rattle.running.proofs.Deciding.{yes_whole, no_whole}
-use Rattle.running.proofs.Running.{runs_as, Along, start, whole_now, run_done, run_full, run_stuck, turn, from_part}
+use Rattle.running.proofs.Running.{Along}
 use Rattle.running.proofs.run.Given as goal
 
 abbrev pub invariant-loop-place : goal.invariant-loop-place

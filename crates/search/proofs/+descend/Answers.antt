@@ -1,9 +1,7 @@
-use Prim.Native.Nat.{ℕ, ◌+◌, ◌<◌}
+use Prim.Native.Nat.{◌+◌}
 use mathlib.Core.Path.{◌≡◌, ◌∙◌}
 use native.Mathlib.Omega.{arith}
-use lib.ListN.{get_or}
 use Rattle.numbers.proofs.Slices.{whole}
-use Rattle.node.specs.Layout.{node_at}
 use Rattle.node.proofs.Reps.{within}
 use Rattle.search.proofs.Descents.{few, ends_here}
 use Rattle.search.proofs.+descend.Goals as goal

@@ -1,8 +1,4 @@
-use mathlib.Core.Path.{◌≡◌, refl, ◌∙◌}
-use Prim.Native.Nat.{ℕ}
-use lib.ListN.{length, get_or}
-use Rattle.node.specs.Layout.{node_at}
-use Rattle.search.specs.Trails.{Followable, Trailing}
+use mathlib.Core.Path.{refl, ◌∙◌}
 use Rattle.search.proofs.follow_on.Goals as goal
 
 pub loop-u-init : goal.loop-u-init

@@ -1,4 +1,4 @@
-use mathlib.Core.Path.{◌≡◌, refl, ◌∙◌}
+use mathlib.Core.Path.{◌≡◌}
 use Prim.Native.Nat.{ℕ}
 use lib.ListN.{length, get_or}
 use Rattle.node.specs.Layout.{node_at}

@@ -4,7 +4,6 @@ use native.Mathlib.Omega.{arith}
 use Prim.Native.Nat.{ℕ, ◌+◌}
 use lib.Dec.{leb}
 use lib.ListN.{length-set}
-use borrow.Author.Rules.{rules}
 use Rattle.node.specs.declared.Node.{Node}
 use Rattle.search.proofs.Descents.{low_place, child_in, room, at_lower, at_descendable, goes_on}
 use Rattle.search.proofs.step_down.Goals as goal

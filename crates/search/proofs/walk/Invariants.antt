@@ -1,22 +1,12 @@
-use mathlib.Core.Path.{◌≡◌, refl, ap, ◌∙◌}
-use mathlib.Core.Bool.{true, false, not}
-use Prim.Native.Nat.{ℕ, ◌+◌, ◌*◌}
-use native.Mathlib.Omega.{arith}
-use lib.Dec.{leb, ltb}
-use lib.ListN.{length, get_or, length-set}
-use lib.Seq.{get_or-set_same}
-use Rattle.numbers.specs.Case.{pick}
-use Rattle.rule.specs.Key.{per_tick}
+use mathlib.Core.Path.{◌≡◌}
+use lib.ListN.{length, get_or}
 use Rattle.shape.specs.Tree.{Tree}
-use Rattle.node.specs.declared.Node.{Node}
 use Rattle.node.specs.Layout.{node_at}
 use Rattle.node.specs.Rep.{Stands}
-use Rattle.node.proofs.Reps.{within}
-use Rattle.search.proofs.Look.{small_here, child_within, child_lower, place_next}
-use Rattle.search.proofs.Walks.{On, on_root, on_few, on_next, on_leaf}
-use Rattle.search.proofs.Treads.{Treading, treading_start, noted_place, deeper, treading_next, trodden}
+use Rattle.search.proofs.Walks.{On}
+use Rattle.search.proofs.Treads.{Treading}
 use Rattle.search.specs.Trails.{Followable}
-use Rattle.search.proofs.Trails.{Trailed, begun_able, begun_trailed, ahead}
+use Rattle.search.proofs.Trails.{Trailed}
 use Rattle.search.proofs.walk.Given as goal
 
 abbrev pub invariant-loop-place : goal.invariant-loop-place

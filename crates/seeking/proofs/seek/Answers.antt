@@ -1,11 +1,8 @@
-use mathlib.Core.Path.{◌≡◌, refl, ◌∙◌}
+use mathlib.Core.Path.{refl, ◌∙◌}
 use mathlib.Core.Bool.{false≢true}
-use mathlib.Core.Logic.{⊎_elim}
-use lib.ListN.{length}
-use Prim.Native.Nat.{◌-◌, ◌≤◌, ◌<◌}
+use Prim.Native.Nat.{◌<◌}
 use native.Mathlib.Omega.{arith}
-use borrow.Author.Rules.{rules}
-use Rattle.seeking.proofs.Seeking.{taken_as, At, Past, searchable, points, foresees, few_visits, first, skipped, taken_here, missed, few_lines, nowhere_left, short_delay, next}
+use Rattle.seeking.proofs.Seeking.{taken_as, Past, searchable, points, foresees, few_visits, first, skipped, taken_here, missed, few_lines, nowhere_left, short_delay, next}
 use Rattle.seeking.proofs.seek.Goals as goal
 use Rattle.seeking.proofs.seek.Goals.{then-tried+else-x, else-tried}
 
@@ -78,8 +75,7 @@ tried-tried-requires c =
       | then-tried+else-x w ↦ rw w.count-is (missed _ c.args.arrival c.args.hold c.args.permitted _ _ _ _ c.loop-tried.invariant.0 w.if-tried.true _ w.search-x.ensures.0 c.requires.whole w.if-x.false)
       | else-tried w ↦ rw w.count-is (skipped _ c.args.arrival c.args.hold c.args.permitted _ _ _ _ c.loop-tried.invariant.0 w.if-tried.false)
     ] in
-    let another : c.loop-tried.line < c.get-lines.result = omega (arith, c.if-line-lines.false, c.loop-tried.invariant.1) in
-    (
+    let another : c.loop-tried.line < c.get-lines.result = omega (arith, c.if-line-lines.false, c.loop-tried.invariant.1) in (
       omega (arith, c.requires.hold_bound.0),
       c.requires.hold_bound.1,
       short_delay _ c.args.arrival c.args.hold c.args.permitted _ c.get-lines.ensures _ _ passed c.requires.whole another _ c.get-d.ensures,
@@ -103,11 +99,9 @@ loop-tried-preserved c =
       | then-tried+else-x w ↦ rw w.count-is (missed _ c.args.arrival c.args.hold c.args.permitted _ _ _ _ c.loop-tried.invariant.0 w.if-tried.true _ w.search-x.ensures.0 c.requires.whole w.if-x.false)
       | else-tried w ↦ rw w.count-is (skipped _ c.args.arrival c.args.hold c.args.permitted _ _ _ _ c.loop-tried.invariant.0 w.if-tried.false)
     ] in
-    let another : c.loop-tried.line < c.get-lines.result = omega (arith, c.if-line-lines.false, c.loop-tried.invariant.1) in
-    (
+    let another : c.loop-tried.line < c.get-lines.result = omega (arith, c.if-line-lines.false, c.loop-tried.invariant.1) in (
       next _ c.args.arrival c.args.hold c.args.permitted _ c.get-lines.ensures _ _ passed c.requires.whole another _ c.get-d.ensures _ c.tried-tried.ensures,
       omega (arith, another),
       c.if-tried.auto.way' ∙ c.loop-tried.invariant.2,
       c.if-tried.auto.far ∙ c.loop-tried.invariant.3,
     )
-

@@ -1,11 +1,7 @@
-use mathlib.Core.Path.{◌≡◌, refl, ◌∙◌}
-use mathlib.Core.Bool.{false≢true}
-use mathlib.Core.Logic.{⊎_elim}
+use mathlib.Core.Path.{◌≡◌}
 use lib.ListN.{length}
-use Prim.Native.Nat.{◌-◌, ◌≤◌, ◌<◌}
-use native.Mathlib.Omega.{arith}
-use borrow.Author.Rules.{rules}
-use Rattle.seeking.proofs.Seeking.{taken_as, At, Past, searchable, points, foresees, few_visits, first, skipped, taken_here, missed, few_lines, nowhere_left, short_delay, next}
+use Prim.Native.Nat.{◌-◌, ◌≤◌}
+use Rattle.seeking.proofs.Seeking.{At}
 use Rattle.seeking.proofs.seek.Given as goal
 
 abbrev pub invariant-loop-tried : goal.invariant-loop-tried

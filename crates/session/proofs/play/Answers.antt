@@ -2,7 +2,6 @@
 use native.Mathlib.Omega.{arith}
 use lib.ListN.{length-take}
 use Rattle.running.proofs.Within.{run_within}
-use borrow.Author.Rules.{rules}
 use Rattle.session.proofs.play.Goals as goal
 
 pub answers-at-requires : goal.answers-at-requires

@@ -3,7 +3,6 @@ use native.Mathlib.Omega.{arith}
 use lib.Dec.{lit≤}
 use lib.ListN.{length-take}
 use Rattle.calls.proofs.Within.{open_within}
-use borrow.Author.Rules.{rules}
 use Rattle.session.proofs.serve.Goals as goal
 
 pub slice_bounds-write_all-end : goal.slice_bounds-write_all-end

@@ -1,11 +1,7 @@
 -- `settled::rises`: the delays that are left rise exactly if all of them do. Assumes nothing.
-use Prim.Native.Nat.{◌≤◌, ◌+◌, ◌-◌}
-use mathlib.Core.Path.{◌≡◌, sym, ◌∙◌}
+use mathlib.Core.Path.{sym, ◌∙◌}
 use native.Mathlib.Omega.{arith}
-use borrow.Author.Rules.{rules}
-use Rattle.rule.specs.Settings.{rising}
 use Rattle.ruling.proofs.Bounding.{broken, holds}
-use Rattle.settled.specs.Settled.{listed}
 use Rattle.settled.proofs.Settling.{rise_start, rise_next, rise_not, rise_end}
 use Rattle.settled.proofs.rises.Goals as goal
 

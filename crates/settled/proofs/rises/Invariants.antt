@@ -1,11 +1,7 @@
 use Prim.Native.Nat.{◌≤◌, ◌+◌, ◌-◌}
-use mathlib.Core.Path.{◌≡◌, sym, ◌∙◌}
-use native.Mathlib.Omega.{arith}
-use borrow.Author.Rules.{rules}
+use mathlib.Core.Path.{◌≡◌}
 use Rattle.rule.specs.Settings.{rising}
-use Rattle.ruling.proofs.Bounding.{broken, holds}
 use Rattle.settled.specs.Settled.{listed}
-use Rattle.settled.proofs.Settling.{rise_start, rise_next, rise_not, rise_end}
 use Rattle.settled.proofs.rises.Given as goal
 
 abbrev pub invariant-loop-i : goal.invariant-loop-i

@@ -3,7 +3,6 @@ use native.Mathlib.Omega.{arith}
 use borrow.Author.Tests.{not-true, not-false}
 use Rattle.settled.proofs.Saying.{says_yes, says_no}
 use Rattle.settled.proofs.Settling.{unbounded, short, used, falling, settles}
-use borrow.Author.Rules.{rules}
 use Rattle.settled.proofs.settled.Goals as goal
 
 pub returns-then-not-bounded : goal.returns-then-not-bounded

@@ -1,9 +1,7 @@
 -- `settled::zeros`: the words passed are 0. Assumes nothing.
-use Prim.Native.Nat.{ℕ, ◌≤◌, ◌<◌, ◌-◌}
-use mathlib.Core.Path.{◌≡◌, sym, ◌∙◌}
+use mathlib.Core.Path.{sym, ◌∙◌}
 use mathlib.Core.Logic.{inl, inr}
 use native.Mathlib.Omega.{arith}
-use Rattle.numbers.specs.Words.{word}
 use Rattle.numbers.specs.Case.{case_eq}
 use Rattle.settled.proofs.zeros.Goals as goal
 

@@ -1,9 +1,6 @@
 use Prim.Native.Nat.{ℕ, ◌≤◌, ◌<◌, ◌-◌}
-use mathlib.Core.Path.{◌≡◌, sym, ◌∙◌}
-use mathlib.Core.Logic.{inl, inr}
-use native.Mathlib.Omega.{arith}
+use mathlib.Core.Path.{◌≡◌}
 use Rattle.numbers.specs.Words.{word}
-use Rattle.numbers.specs.Case.{case_eq}
 use Rattle.settled.proofs.zeros.Given as goal
 
 abbrev pub invariant-loop-i : goal.invariant-loop-i

@@ -1,6 +1,5 @@
 -- `stepping::step`: the reader's case, then the booking's or the sweep's own promise. Assumes nothing.
 use Rattle.stepping.proofs.Stepping.{booking_in, booked_steps, sweep_in, swept_steps, no_order}
-use borrow.Author.Rules.{rules}
 use Rattle.stepping.proofs.step.Goals as goal
 
 pub book-answer-requires : goal.book-answer-requires

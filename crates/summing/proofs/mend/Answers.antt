@@ -1,4 +1,3 @@
-use borrow.Author.Rules.{rules}
 use native.Mathlib.Omega.{arith}
 use Rattle.node.proofs.Nodes.{mended, below_by, over_fits}
 use Rattle.summing.proofs.Sums.{read_at}

@@ -1,6 +1,5 @@
 use mathlib.Core.Path.{sym, ◌∙◌}
 use mathlib.Core.Bool.{false≢true}
-use borrow.Author.Rules.{rules}
 use Rattle.summing.proofs.Sums.{read_at, sums_none, sums_saved_lem}
 use Rattle.summing.proofs.sum_up.Goals as goal
 

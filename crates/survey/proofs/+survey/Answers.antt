@@ -6,7 +6,6 @@ use borrow.Author.Tests.{not-true, not-false}
 use Rattle.settled.proofs.Saying.{says_yes, says_no}
 use Rattle.inspect.proofs.Inspecting.{leaf_fits}
 use Rattle.survey.proofs.Surveying.{nothing, spent, high, not_leaf, leaf_yes, seated, left_no, right_no, not_joined, lower, node_yes}
-use Prim.Native.Nat.{ℕ, ◌<◌}
 use Rattle.survey.proofs.+survey.Goals as goal
 
 pub returns-then-budget-eq0 : goal.returns-then-budget-eq0

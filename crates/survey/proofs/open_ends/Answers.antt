@@ -1,10 +1,6 @@
 -- `survey::open_ends`: each end passed is one more than the open end. Assumes nothing.
-use Prim.Native.Nat.{ℕ, ◌≤◌, ◌<◌, ◌-◌, ◌+◌}
-use mathlib.Core.Path.{◌≡◌}
 use native.Mathlib.Omega.{arith}
 use borrow.Author.Count.{below_more}
-use lib.ListN.{get_or}
-use Rattle.rule.specs.Moments.{open_end}
 use Rattle.survey.proofs.open_ends.Goals as goal
 
 pub loop-c-init : goal.loop-c-init

@@ -1,7 +1,5 @@
 use Prim.Native.Nat.{ℕ, ◌≤◌, ◌<◌, ◌-◌, ◌+◌}
 use mathlib.Core.Path.{◌≡◌}
-use native.Mathlib.Omega.{arith}
-use borrow.Author.Count.{below_more}
 use lib.ListN.{get_or}
 use Rattle.rule.specs.Moments.{open_end}
 use Rattle.survey.proofs.open_ends.Given as goal

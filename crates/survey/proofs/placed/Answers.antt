@@ -1,5 +1,4 @@
 -- `survey::placed`: its three tests are what `Seated` asks. Assumes nothing.
-use borrow.Author.Rules.{rules}
 use native.Mathlib.Omega.{arith}
 use Rattle.survey.proofs.placed.Goals as goal
 

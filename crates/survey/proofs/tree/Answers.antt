@@ -3,7 +3,6 @@ use Prim.Native.Nat.{ℕ, ◌+◌, ◌≤◌, ◌<◌}
 use native.Mathlib.Omega.{arith}
 use Rattle.rule.specs.Height.{Allowed}
 use Rattle.survey.proofs.Planting.{Limits, zeros, allowed_small, no_tree, no_many, plants}
-use borrow.Author.Rules.{rules}
 use Rattle.survey.proofs.tree.Goals as goal
 
 limits : (k h limit : ℕ) → Allowed k h → limit ≤ h + 1 → h < limit → Limits k h limit

@@ -1,5 +1,4 @@
 -- `sweeping::sweep`: refused by its code, or cleared and the floor set. Assumes nothing.
-use borrow.Author.Rules.{rules}
 use native.Mathlib.Omega.{arith}
 use Rattle.memory.proofs.Whole.{floor_low}
 use Rattle.sweeping.proofs.Sweeping.{short_leap, refused_early, clearable, some, done}

@@ -1,5 +1,3 @@
-use borrow.Author.Rules.{rules}
-use native.Mathlib.Omega.{arith}
 use Rattle.taking.proofs.put_in.Goals as goal
 
 pub add_on-requires : goal.add_on-requires

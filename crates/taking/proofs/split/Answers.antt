@@ -1,14 +1,9 @@
-use borrow.Author.Rules.{rules}
 use mathlib.Core.Path.{◌≡◌, refl}
 use mathlib.Core.Bool.{true, false}
-use mathlib.Core.Logic.{⊎_elim}
 use native.Mathlib.Omega.{arith}
 use Rattle.rule.specs.Kept.{kept}
 use Rattle.rule.specs.Key.{start_of}
-use Rattle.state.specs.State.{State}
-use Rattle.memory.specs.Holds.{Holds}
 use Rattle.memory.proofs.Whole.{floor_low}
-use Rattle.taking.specs.Take.{Splitting}
 use Rattle.taking.proofs.Splitting.{piece, noted_pre, roomy_front, ahead_front, split_front, split_both, roomy_behind, Going, going_more, going_none, several, split_gone}
 use Rattle.taking.proofs.split.Goals as goal
 use Rattle.taking.proofs.split.Goals.{then-behind-2, else-behind-2}

@@ -1,8 +1,5 @@
-use Prim.Native.Nat.{ℕ}
 use native.Mathlib.Omega.{arith}
-use lib.ListN.{get_or}
-use Rattle.tracing.specs.Ways.{Partway}
-use Rattle.tracing.proofs.Tracing.{Tracing, noted_low, noted_in, tracing_start, traced, place_small, right_in, next_in, deeper, tracing_next, tracing_at, lower}
+use Rattle.tracing.proofs.Tracing.{noted_low, noted_in, tracing_start, traced, place_small, right_in, next_in, deeper, tracing_next, tracing_at, lower}
 use Rattle.tracing.proofs.trace_on.Goals as goal
 
 pub offset_bounds-way-noted : goal.offset_bounds-way-noted

@@ -1,8 +1,7 @@
 use Prim.Native.Nat.{ℕ}
-use native.Mathlib.Omega.{arith}
 use lib.ListN.{get_or}
 use Rattle.tracing.specs.Ways.{Partway}
-use Rattle.tracing.proofs.Tracing.{Tracing, noted_low, noted_in, tracing_start, traced, place_small, right_in, next_in, deeper, tracing_next, tracing_at, lower}
+use Rattle.tracing.proofs.Tracing.{Tracing}
 use Rattle.tracing.proofs.trace_on.Given as goal
 
 abbrev pub invariant-loop-n : goal.invariant-loop-n

@@ -1,6 +1,5 @@
 -- `tree::graft`: the leaf moved, the new one beside it, the node over both (Starting). Assumes nothing.
 use mathlib.Core.Path.{refl}
-use borrow.Author.Rules.{rules}
 use native.Mathlib.Omega.{arith}
 use Rattle.turning.proofs.Sides.{leaf_fits, saved_as, copied_at}
 use Rattle.node.proofs.Reps.{within}

@@ -1,5 +1,4 @@
 -- `tree::insert`: down by the key's way, and the leaf at its end. Assumes nothing.
-use borrow.Author.Rules.{rules}
 use native.Mathlib.Omega.{arith}
 use Rattle.tree.proofs.Starting.{alone_ready}
 use Rattle.tree.proofs.insert.Goals as goal

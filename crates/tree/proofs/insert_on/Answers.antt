@@ -1,5 +1,4 @@
 -- `tree::insert_on`: the graft at the end of the way, and up again (Starting). Assumes nothing.
-use borrow.Author.Rules.{rules}
 use native.Mathlib.Omega.{arith}
 use Rattle.node.proofs.Reps.{within}
 use Rattle.rising.specs.Changes.{adding}

@@ -1,5 +1,4 @@
 -- `tree::set_end`: the way from the root. Assumes nothing.
-use borrow.Author.Rules.{rules}
 use native.Mathlib.Omega.{arith}
 use Rattle.tracing.proofs.Below.{within_alone}
 use Rattle.tracing.proofs.Tracing.{partway_head}

@@ -1,5 +1,4 @@
 -- `tree::set_end_on`: down to the leaf, its end, up again (Starting). Assumes nothing.
-use borrow.Author.Rules.{rules}
 use native.Mathlib.Omega.{arith}
 use Rattle.rising.specs.Changes.{ending}
 use Rattle.turning.proofs.Sides.{leaf_fits, saved_as}

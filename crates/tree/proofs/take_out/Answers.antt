@@ -1,6 +1,5 @@
 -- `tree::take_out`: the sibling moved up, then the way up (Starting). Assumes nothing.
 use mathlib.Core.Path.{refl}
-use borrow.Author.Rules.{rules}
 use native.Mathlib.Omega.{arith}
 use Rattle.rising.specs.Changes.{cutting}
 use Rattle.turning.proofs.Sides.{copied_at}

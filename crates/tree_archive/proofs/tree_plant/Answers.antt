@@ -1,6 +1,5 @@
 -- `tree_archive::tree_plant`: a leaf's numbers fit a node. Assumes nothing.
 use native.Mathlib.Omega.{arith}
-use borrow.Author.Rules.{rules}
 use Rattle.tree_archive.proofs.tree_plant.Goals as goal
 
 pub save-requires : goal.save-requires

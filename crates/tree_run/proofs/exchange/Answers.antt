@@ -1,10 +1,6 @@
 -- `tree_run::exchange`: each round keeps the tree. Assumes nothing.
 use native.Mathlib.Omega.{arith}
-use borrow.Author.Rules.{rules}
-use mathlib.Core.Path.{◌≡◌, refl, ◌∙◌}
-use Prim.Native.Nat.{◌-◌, ◌≤◌}
-use lib.ListN.{length}
-use Rattle.tree_run.specs.Grown.{voids, Has}
+use mathlib.Core.Path.{refl, ◌∙◌}
 use Rattle.tree_run.proofs.exchange.Goals as goal
 
 pub loop-i-init : goal.loop-i-init

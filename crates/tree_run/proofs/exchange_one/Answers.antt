@@ -1,6 +1,4 @@
 -- `tree_run::exchange_one`: the void that comes takes the place that is free. Assumes nothing.
-use native.Mathlib.Omega.{arith}
-use borrow.Author.Rules.{rules}
 use Rattle.tree_run.proofs.Steps.{alone, inner, cut_insertable, cut_grown, ended}
 use Rattle.tree_run.proofs.exchange_one.Goals as goal
 

@@ -1,10 +1,7 @@
 -- `tree_run::grow`: before the i-th void the tree has i, at places below i. Assumes nothing.
 use native.Mathlib.Omega.{arith}
-use borrow.Author.Rules.{rules}
 use mathlib.Core.Path.{◌≡◌, refl, ◌∙◌}
-use Prim.Native.Nat.{◌-◌, ◌≤◌}
-use lib.ListN.{length}
-use Rattle.tree_run.specs.Grown.{voids, Has}
+use Rattle.tree_run.specs.Grown.{voids}
 use Rattle.tree_run.proofs.Steps.{insertable, grown}
 use Rattle.tree_run.proofs.grow.Goals as goal
 

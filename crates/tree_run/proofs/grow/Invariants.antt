@@ -1,10 +1,7 @@
-use native.Mathlib.Omega.{arith}
-use borrow.Author.Rules.{rules}
-use mathlib.Core.Path.{◌≡◌, refl, ◌∙◌}
+use mathlib.Core.Path.{◌≡◌}
 use Prim.Native.Nat.{◌-◌, ◌≤◌}
 use lib.ListN.{length}
 use Rattle.tree_run.specs.Grown.{voids, Has}
-use Rattle.tree_run.proofs.Steps.{insertable, grown}
 use Rattle.tree_run.proofs.grow.Given as goal
 
 abbrev pub invariant-loop-i : goal.invariant-loop-i

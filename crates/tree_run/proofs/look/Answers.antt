@@ -1,9 +1,6 @@
 -- `tree_run::look`: the tree stays as it is. Assumes nothing.
 use native.Mathlib.Omega.{arith}
-use borrow.Author.Rules.{rules}
-use mathlib.Core.Path.{◌≡◌, refl, ◌∙◌}
-use Prim.Native.Nat.{◌-◌, ◌≤◌}
-use lib.ListN.{length}
+use mathlib.Core.Path.{refl, ◌∙◌}
 use Rattle.tree_run.proofs.Steps.{searchable}
 use Rattle.tree_run.proofs.look.Goals as goal
 

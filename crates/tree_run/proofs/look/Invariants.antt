@@ -1,9 +1,6 @@
-use native.Mathlib.Omega.{arith}
-use borrow.Author.Rules.{rules}
-use mathlib.Core.Path.{◌≡◌, refl, ◌∙◌}
+use mathlib.Core.Path.{◌≡◌}
 use Prim.Native.Nat.{◌-◌, ◌≤◌}
 use lib.ListN.{length}
-use Rattle.tree_run.proofs.Steps.{searchable}
 use Rattle.tree_run.proofs.look.Given as goal
 
 abbrev pub invariant-loop-i : goal.invariant-loop-i

@@ -1,6 +1,5 @@
 -- `tree_run::main`: what grew is searched, exchanged and searched again. Assumes nothing.
 use native.Mathlib.Omega.{arith}
-use borrow.Author.Rules.{rules}
 use Rattle.node.proofs.Reps.{within}
 use Rattle.tree_run.proofs.main.Goals as goal
 

@@ -1,7 +1,6 @@
 -- `tree_run::plant`: one leaf stands. Assumes nothing.
 use native.Mathlib.Omega.{arith}
 use Rattle.tree_run.proofs.Steps.{planted}
-use borrow.Author.Rules.{rules}
 use Rattle.tree_run.proofs.plant.Goals as goal
 
 pub save-requires : goal.save-requires

@@ -1,7 +1,6 @@
 -- `turning::balance`: by the heights read, a turn or the node as it is (Balancing). Assumes nothing.
 use native.Mathlib.Omega.{arith}
 use mathlib.Core.Bool.{true}
-use borrow.Author.Rules.{rules}
 use Rattle.summing.proofs.Sums.{read_at}
 use Rattle.turning.proofs.Sides.{both_within, both_small}
 use Rattle.turning.proofs.Balancing.{mendable_both, low_both, steep_left, steep_right, balance_left, balance_right, balance_here}

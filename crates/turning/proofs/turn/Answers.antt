@@ -1,6 +1,5 @@
 -- `turning::turn`: the single turn and the double one, step by step (Turning). Assumes nothing.
 use native.Mathlib.Omega.{arith}
-use borrow.Author.Rules.{rules}
 use mathlib.Core.Path.{refl}
 use Rattle.summing.proofs.Sums.{read_at}
 use Rattle.turning.proofs.Sides.{both_within, both_small, copied_at, over_at, mendable_at}

@@ -2,7 +2,6 @@
 use borrow.Author.Tests.{not-true, not-false}
 use Rattle.settled.proofs.Saying.{says_yes, says_no, says_map}
 use Rattle.whole.proofs.Wholeness.{whole_settled, whole_treed, whole_spared, parts_whole}
-use borrow.Author.Rules.{rules}
 use Rattle.whole.proofs.whole.Goals as goal
 
 pub returns-then-not-settled : goal.returns-then-not-settled

@@ -1,7 +1,6 @@
 -- `calls::act::act`: a run with room for one answer, and what it says of the record at its start. Assumes nothing.
 use mathlib.Core.Path.{refl}
 use Rattle.calls.proofs.Acting.{act_spoiled, act_unread, act_done}
-use borrow.Author.Rules.{rules}
 use Rattle.calls.proofs.act.act.Goals as goal
 
 pub returns-then-ran-eq2 : goal.returns-then-ran-eq2

@@ -2,7 +2,6 @@
 use native.Mathlib.Omega.{arith}
 use lib.ListN.{length-take}
 use Rattle.calls.proofs.Opening.{long, floor_in, too_many, accepted, turned_down, no_opening}
-use borrow.Author.Rules.{rules}
 use Rattle.calls.proofs.open.open.Goals as goal
 
 pub returns-then-lines-gt16 : goal.returns-then-lines-gt16

@@ -1,11 +1,9 @@
 -- `calls::tell::tell`: the check, then the header's word. Assumes nothing.
 use mathlib.Core.Logic.{inl, inr}
-use mathlib.Core.Path.{◌≡◌, refl}
-use native.Mathlib.Omega.{arith}
+use mathlib.Core.Path.{refl}
 use borrow.Author.Tests.{not-true, not-false}
 use Rattle.running.proofs.Deciding.{yes_whole, no_whole}
 use Rattle.calls.proofs.Telling.{told, header_long}
-use borrow.Author.Rules.{rules}
 use Rattle.calls.proofs.tell.tell.Goals as goal
 
 pub returns-then-not-whole : goal.returns-then-not-whole

@@ -1,7 +1,6 @@
 -- `opening::single::delay` reads past the end as 0. Assumes nothing.
 use mathlib.Core.Path.{sym}
 use lib.ListN.{get_or-eq_default}
-use borrow.Author.Rules.{rules}
 use Rattle.opening.proofs.single.delay.Goals as goal
 
 pub returns-else-i-delays : goal.returns-else-i-delays

@@ -1,12 +1,7 @@
 -- `opening::single::lay`: after k rounds the last k places are spare. Assumes nothing.
-use mathlib.Core.Path.{◌≡◌, refl, ◌∙◌}
-use Prim.Native.Nat.{◌-◌, ◌≤◌, ◌<◌}
-use mathlib.Core.Path.{◌≡◌, refl, ◌∙◌}
-use Prim.Native.Nat.{◌-◌, ◌≤◌, ◌<◌}
+use mathlib.Core.Path.{refl, ◌∙◌}
+use mathlib.Core.Path.{refl, ◌∙◌}
 use native.Mathlib.Omega.{arith}
-use lib.ListN.{length}
-use Rattle.numbers.specs.Words.{word}
-use Rattle.opening.specs.Stages.{Laid}
 use Rattle.opening.proofs.Beginning.{laid_0, laid_step, laid_low, laid_end}
 use Rattle.opening.proofs.single.lay.Goals as goal
 

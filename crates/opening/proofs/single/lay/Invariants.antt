@@ -1,12 +1,10 @@
-use mathlib.Core.Path.{◌≡◌, refl, ◌∙◌}
+use mathlib.Core.Path.{◌≡◌}
 use Prim.Native.Nat.{◌-◌, ◌≤◌, ◌<◌}
-use mathlib.Core.Path.{◌≡◌, refl, ◌∙◌}
+use mathlib.Core.Path.{◌≡◌}
 use Prim.Native.Nat.{◌-◌, ◌≤◌, ◌<◌}
-use native.Mathlib.Omega.{arith}
 use lib.ListN.{length}
 use Rattle.numbers.specs.Words.{word}
 use Rattle.opening.specs.Stages.{Laid}
-use Rattle.opening.proofs.Beginning.{laid_0, laid_step, laid_low, laid_end}
 use Rattle.opening.proofs.single.lay.Given as goal
 
 abbrev pub invariant-loop-k : goal.invariant-loop-k

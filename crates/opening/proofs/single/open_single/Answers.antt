@@ -1,7 +1,6 @@
 -- `opening::single::open_single`: header, leaf, spare places. Assumes nothing.
 use native.Mathlib.Omega.{arith}
 use Rattle.opening.proofs.Beginning.{save_pre, lay_pre, begun}
-use borrow.Author.Rules.{rules}
 use Rattle.opening.proofs.single.open_single.Goals as goal
 
 pub put_header-requires : goal.put_header-requires

@@ -1,9 +1,5 @@
 -- `opening::single::put_delays`: after i rounds the first i delays stand in their words. Assumes nothing.
-use Prim.Native.Nat.{◌-◌, ◌≤◌}
-use Prim.Native.Nat.{◌-◌, ◌≤◌}
 use native.Mathlib.Omega.{arith}
-use borrow.Author.Rules.{rules}
-use Rattle.opening.specs.Stages.{Tail}
 use Rattle.opening.proofs.Beginning.{tail_0, tail_step, tail_end}
 use Rattle.opening.proofs.single.put_delays.Goals as goal
 

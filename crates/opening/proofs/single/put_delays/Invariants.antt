@@ -1,9 +1,6 @@
 use Prim.Native.Nat.{◌-◌, ◌≤◌}
 use Prim.Native.Nat.{◌-◌, ◌≤◌}
-use native.Mathlib.Omega.{arith}
-use borrow.Author.Rules.{rules}
 use Rattle.opening.specs.Stages.{Tail}
-use Rattle.opening.proofs.Beginning.{tail_0, tail_step, tail_end}
 use Rattle.opening.proofs.single.put_delays.Given as goal
 
 abbrev pub invariant-loop-i : goal.invariant-loop-i

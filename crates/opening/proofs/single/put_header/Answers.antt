@@ -2,7 +2,6 @@
 use native.Mathlib.Omega.{arith}
 use mathlib.Core.Path.{refl}
 use Rattle.opening.proofs.Beginning.{headed}
-use borrow.Author.Rules.{rules}
 use Rattle.opening.proofs.single.put_header.Goals as goal
 
 pub put-requires-8 : goal.put-requires-8

@@ -1,10 +1,9 @@
 -- `whole::spares::spared`: what is left of the list is right exactly if the whole list is. Assumes nothing.
-use Prim.Native.Nat.{◌+◌}
 use mathlib.Core.Bool.{true, false}
 use native.Mathlib.Omega.{arith}
 use borrow.Author.Tests.{not-true, not-false}
 use Rattle.settled.proofs.Saying.{says_yes, says_no}
-use Rattle.whole.proofs.Threading.{Way, way_start, way_none, way_out, way_not, way_beside, way_more, none_is, is_none, read_spares}
+use Rattle.whole.proofs.Threading.{way_start, way_none, way_out, way_not, way_beside, way_more, none_is, is_none, read_spares}
 use Rattle.whole.proofs.spares.spared.Goals as goal
 
 pub get-room-requires : goal.get-room-requires

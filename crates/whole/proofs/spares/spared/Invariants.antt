@@ -1,9 +1,5 @@
 use Prim.Native.Nat.{◌+◌}
-use mathlib.Core.Bool.{true, false}
-use native.Mathlib.Omega.{arith}
-use borrow.Author.Tests.{not-true, not-false}
-use Rattle.settled.proofs.Saying.{says_yes, says_no}
-use Rattle.whole.proofs.Threading.{Way, way_start, way_none, way_out, way_not, way_beside, way_more, none_is, is_none, read_spares}
+use Rattle.whole.proofs.Threading.{Way}
 use Rattle.whole.proofs.spares.spared.Given as goal
 
 abbrev pub invariant-loop-many : goal.invariant-loop-many
