@@ -1,4 +1,4 @@
-//! The link through its archives: `rt staticlib door` and `rt staticlib link_archive` (docs/BENCHMARKS.md). Four tables: the
+//! The link through its archives: those of crates door and link_archive (`make bench-link`; docs/BENCHMARKS.md). Four tables: the
 //! whole-link check a void, hostile memories, sweeping a void dropped, and a run of records beside the link's own booking loop.
 use std::time::Instant;
 

@@ -1,4 +1,4 @@
--- What a split of a void asks of the state, and gets in a sound link unless code 8 is given (SoundLaws, split-room).
+-- What a split of a void asks of the state, and gets in a sound link unless code 8 is given (SoundLaws, split_room).
 use Rattle.std.specs.Prelude.{◌≡◌, ◌≢◌, true, false, ℕ, ◌≤◌, ◌<◌, length}
 use Rattle.rule.specs.Kept.{kept}
 use Rattle.rule.specs.Key.{key_of, start_of, channel_of}

@@ -1,5 +1,5 @@
 -- A turn by what was read: the high tree is taken apart, and each step of the turn (Steps) is one that the code may take.
--- The code knows a place by its left seat: near-is and far-is say which that is.
+-- The code knows a place by its left seat: near_is and far_is say which that is.
 use mathlib.Core.Path.{◌≡◌, refl, ap}
 use mathlib.Core.Bool.{Bool}
 use mathlib.Core.List.{List}
