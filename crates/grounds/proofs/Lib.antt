@@ -1,4 +1,5 @@
 -- The promises in other words (specs/Doors, Plain, Right), proved; and what leads to them from what the public calls state.
+pub mod AnsweredOne
 pub mod RunLaws
 pub mod Doors
 pub mod SessionLaws

@@ -18,7 +18,7 @@ use Rattle.state.specs.VoidLaws.{chosen_as}
 use Rattle.state.specs.History.{Event, floor_of, Stretches}
 use Rattle.grounds.specs.Session.{Call, Since, heard, Each}
 use Rattle.grounds.specs.Right.{Right}
-use Rattle.grounds.specs.AnsweredOne.{stretches_one}
+use Rattle.grounds.proofs.AnsweredOne.{stretches_one}
 use Rattle.grounds.proofs.Gaps.{each_right}
 use Rattle.grounds.specs.Plain.{Fitted, Plain}
 

@@ -15,4 +15,3 @@ pub mod TallyLaws
 pub mod Sevens
 pub mod Memories
 pub mod OnceLaws
-pub mod AnsweredOne
