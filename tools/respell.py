@@ -19,10 +19,7 @@ BOUND = re.compile(r"[({λ]\s*((?:[^\s(){}\[\];,.:=]+\s+)+):\s")
 NAME = re.compile(r"(?<![\w'′-])([a-z][\w'′]*(?:-[\w'′]+)*)(?![\w'′-])")
 ODD = re.compile(r"^[a-z][\w'′]*(-[\w'′]+)*$")
 # A lemma that would have a definition's name.
-LEMMAS = {
-    "by-mark", "last-moment", "links-of", "most-channels", "most-lines", "most-room", "open-end",
-    "open-ends", "over-node", "sums-saved", "row-at",
-}
+LEMMAS = {"by-mark", "links-of", "open-end", "open-ends", "over-node", "sums-saved", "row-at"}
 # The same, where port.py had respelled the lemma already.
 LEMMAS_THERE = {"in_bounds", "heard_all"}
 

@@ -6,14 +6,14 @@ use tally::Tally;
 
 // What a single order gives: the seven numbers and the bytes used.
 #[repr(C)]
-#[derive(Drop)]
+#[derive(Clone, Copy)]
 pub struct Acted {
     pub answer: Answer,
     pub used: usize,
 }
 
 // The same, with the tally after it.
-#[derive(Drop)]
+#[derive(Clone, Copy)]
 pub struct Done {
     pub tally: Tally,
     pub acted: Acted,

@@ -4,7 +4,7 @@ ghost use Rattle.calls.specs.Opens.{Opens};
 use order::Record;
 
 #[repr(C)]
-#[derive(Drop)]
+#[derive(Clone, Copy)]
 pub struct Opened {
     pub code: u64,
     pub used: usize,

@@ -2,7 +2,7 @@
 ghost use Rattle.calls.specs.Calls.{Tells};
 
 #[repr(C)]
-#[derive(Drop)]
+#[derive(Clone, Copy)]
 pub struct Told {
     pub code: u64,
     pub voids: u64,

@@ -10,7 +10,7 @@ use digits::field;
 
 // What a record says, with its length, or the code it is refused with. A compact booking is a booking with no line
 // permitted; an opening's delays stay in the record (`delay`).
-#[derive(Drop)]
+#[derive(Clone, Copy)]
 pub enum Record {
     Opening {
         channels: u64,

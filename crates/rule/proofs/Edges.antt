@@ -79,7 +79,7 @@ pub on_the_edge : OnTheEdge
 unfolding hold least
 on_the_edge = record {
   exact_fit = omega arith;
-  last_moment_lem = answers (opened 2) _ _ _ (one_end _) (taken 0 (2 ^ 48 - 2) 0 0 open_end, at_once _ (settings 1 [] 2) (2 ^ 48 - 2) 1 0 (omega arith), refl, replaced_is (opened 2) 0 0 open_end (2 ^ 48 - 2) last_moment);
+  last_moment = answers (opened 2) _ _ _ (one_end _) (taken 0 (2 ^ 48 - 2) 0 0 open_end, at_once _ (settings 1 [] 2) (2 ^ 48 - 2) 1 0 (omega arith), refl, replaced_is (opened 2) 0 0 open_end (2 ^ 48 - 2) last_moment);
   past_the_last_moment = answers (opened 2) _ _ _ (one_end _) (refl, same (opened 2));
   equal_starts = answers alike _ _ _ (two_ends _ _ (λ q. omega arith))
       (taken 0 4 0 3 20, inl (refl, refl, first_of_two _ _ 4 8 (omega arith) (inr (omega arith))), refl, replaced_is alike 0 3 20 4 8);

@@ -52,7 +52,7 @@ delays = link (settings 1 (5 ∷ 9 ∷ []) 4) (void 0 18 open_end ∷ [])
 
 pub record OnTheEdge : Type 0 where
   pub exact_fit : Fits 5 9 5 9 × (¬ (Fits 5 9 5 10)) × (¬ (Fits 6 9 5 9))
-  pub last_moment_lem : Answers (opened 2) (booking (2 ^ 48 - 2) 1 0) (booked 0 0 (2 ^ 48 - 2) last_moment) (link (settings 1 [] 2) (void 0 0 (2 ^ 48 - 2) ∷ void 0 last_moment open_end ∷ []))
+  pub last_moment : Answers (opened 2) (booking (2 ^ 48 - 2) 1 0) (booked 0 0 (2 ^ 48 - 2) last_moment) (link (settings 1 [] 2) (void 0 0 (2 ^ 48 - 2) ∷ void 0 last_moment open_end ∷ []))
   pub past_the_last_moment : Answers (opened 2) (booking (2 ^ 48 - 1) 1 0) (refused 6) (opened 2)
   pub equal_starts : Answers alike (booking 4 4 0) (booked 0 0 4 8) (link (settings 2 [] 4) (void 1 3 20 ∷ void 0 3 4 ∷ void 0 8 20 ∷ []))
   pub later_start : Answers later (booking 4 4 0) (booked 1 0 4 8) (link (settings 2 [] 4) (void 0 3 20 ∷ void 1 8 20 ∷ []))

@@ -1,6 +1,6 @@
 // The seven numbers of an answer (specs/Answer.antt).
 #[repr(C)]
-#[derive(Drop)]
+#[derive(Clone, Copy)]
 pub struct Answer {
     pub code: u64,
     pub channel: u64,

@@ -9,7 +9,7 @@ use tally::Tally;
 
 // What a run gives: the code that ended it, the place of the first byte not acted on, the records answered.
 #[repr(C)]
-#[derive(Drop)]
+#[derive(Clone, Copy)]
 pub struct Ran {
     pub code: u64,
     pub place: usize,
@@ -17,7 +17,7 @@ pub struct Ran {
 }
 
 // The same, with the tally after it.
-#[derive(Drop)]
+#[derive(Clone, Copy)]
 pub struct RunDone {
     pub tally: Tally,
     pub ran: Ran,

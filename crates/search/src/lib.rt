@@ -14,7 +14,7 @@ ghost use Rattle.search.specs.Trails.{Followable, Begun, Follows, FollowsOn, Ahe
 ghost use Rattle.search.specs.Search.{Descendable, Descends, Lowers, Searchable, Walked, Trodden, found_of, Notes};
 
 // The seat of the leaf where a descent ends, and the visits on the way to it.
-#[derive(Drop)]
+#[derive(Clone, Copy)]
 pub struct Descent {
     pub seat: usize,
     pub visits: u64,
@@ -43,7 +43,7 @@ struct Way {
 // Where the search ends: at a leaf, or at none (key and end are 0 then), and its visits; and how far down the way to that
 // leaf is noted. How far down the way of the keys from f on is noted, and the first key that it is not the way of.
 #[repr(C)]
-#[derive(Drop)]
+#[derive(Clone, Copy)]
 pub struct Found {
     pub found: bool,
     pub key: u64,

@@ -14,7 +14,7 @@ use search::Found;
 
 // What the search over the starts came to: the line, the start and the void taken, or none (then all are 0); the visits; how
 // far down the way to the void is noted; and how far that of the keys from the burst's end on and below `after`.
-#[derive(Drop)]
+#[derive(Clone, Copy)]
 pub struct Taken {
     pub found: bool,
     pub line: u64,

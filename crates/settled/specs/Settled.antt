@@ -10,10 +10,10 @@ use Rattle.memory.specs.Header.{need}
 -- the numbers of the header that have bounds of their own
 pub record Bounded (room channels lines leap floor kept : ℕ) : Type 0 where
   pub some_channel : 1 ≤ channels
-  pub most_channels_lem : channels ≤ most_channels
+  pub most_channels : channels ≤ most_channels
   pub some_room : channels ≤ room
-  pub most_room_lem : room ≤ most_room
-  pub most_lines_lem : lines ≤ most_lines
+  pub most_room : room ≤ most_room
+  pub most_lines : lines ≤ most_lines
   pub some_leap : 1 ≤ leap
   pub most_leap : leap ≤ longest
   pub most_floor : floor ≤ last_moment

@@ -9,7 +9,7 @@ use order::Record;
 use rule::answer::Answer;
 
 // What one record gives: the seven numbers, the bytes used, and the row of the tally that it raises.
-#[derive(Drop)]
+#[derive(Clone, Copy)]
 pub struct Single {
     pub answer: Answer,
     pub used: usize,

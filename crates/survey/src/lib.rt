@@ -14,7 +14,7 @@ ghost use Rattle.survey.specs.Planted.{Planted};
 use rule::moments::OPEN_END;
 
 // What a survey comes to: one more than the last key (0: no such tree), and what is left of the budget of visits.
-#[derive(Drop)]
+#[derive(Clone, Copy)]
 pub struct Progress {
     pub next: u64,
     pub left: u64,

@@ -64,10 +64,10 @@ module _ (m : List ℕ) (s : State) (S : Sound s) (H : Holds m s) where
       record {
         bounded = record {
           some_channel = omega (arith, word_channels, b.channels);
-          most_channels_lem = omega (arith, word_channels, b.channels);
+          most_channels = omega (arith, word_channels, b.channels);
           some_room = omega (arith, word_channels, word_room, b.room);
-          most_room_lem = omega (arith, word_room, b.room);
-          most_lines_lem = omega (arith, word_lines, b.lines);
+          most_room = omega (arith, word_room, b.room);
+          most_lines = omega (arith, word_lines, b.lines);
           some_leap = omega (arith, word_leap, b.leap);
           most_leap = omega (arith, word_leap, b.leap);
           most_floor = omega (arith, word_floor, S.floor);
@@ -152,7 +152,7 @@ module _ (m : List ℕ) (t : Tree) (A : Settled m) (B : Treed m t) (C : Spared m
         let b = below_is z n (B.inside z y) in
         let o = same_other z 0 (λ e. omega (arith, ap (λ (i : ℕ). uses i t) e, stands_apart t m root_seat B.stands)) in
         elim (dec_lt 0 (among z ps)) [
-          | yes x ↦ absurd (omega (arith, node_low m z root_seat t B.stands y, (marked k m n (word m 7) z C x).mark, height_size t, B.many, A.bounded.most_voids, A.bounded.most_room_lem))
+          | yes x ↦ absurd (omega (arith, node_low m z root_seat t B.stands y, (marked k m n (word m 7) z C x).mark, height_size t, B.many, A.bounded.most_voids, A.bounded.most_room))
           | no x ↦ omega (arith, stands_once m root_seat 0 most_key t B.stands B.ordered z)
         ]
     | no y ↦ elim (dec_lt 0 (among z ps)) [
@@ -192,11 +192,11 @@ module _ (m : List ℕ) (t : Tree) (A : Settled m) (B : Treed m t) (C : Spared m
 
   rows : Bounds (read m t).settings
   rows = let b = A.bounded in record {
-    channels = (b.some_channel, b.most_channels_lem);
-    lines = omega (arith, length_listed (word m 2) m 8, b.most_lines_lem);
+    channels = (b.some_channel, b.most_channels);
+    lines = omega (arith, length_listed (word m 2) m 8, b.most_lines);
     delays = A.delays;
     leap = (b.some_leap, b.most_leap);
-    room = (b.some_room, b.most_room_lem);
+    room = (b.some_room, b.most_room);
   }
 
   sound : Sound (read m t)
@@ -216,8 +216,8 @@ module _ (m : List ℕ) (t : Tree) (A : Settled m) (B : Treed m t) (C : Spared m
 
   holds : Holds m (read m t)
   holds = record {
-    small = omega (arith, A.bounded.most_room_lem);
-    lines = omega (arith, length_listed (word m 2) m 8, A.bounded.most_lines_lem);
+    small = omega (arith, A.bounded.most_room);
+    lines = omega (arith, length_listed (word m 2) m 8, A.bounded.most_lines);
     long = A.long;
     heads = heads;
     stands = B.stands;

@@ -26,10 +26,10 @@ pub far-right-requires : goal.far-right-requires
 far-right-requires t c = place_low c.args.bound _ _ _ _ c.load-n.ensures c.requires
 
 pub below-left_gone-requires : goal.below-left_gone-requires
-below-left_gone-requires t c = let g = down_left c.args.bound _ _ _ _ c.load-n.ensures c.if-n-eq0.false _ _ c.near-left.ensures c.far-right.ensures c.requires in (omega (arith, g.1, c.requires-raw.0), g.0)
+below-left_gone-requires t c = let g = down_left c.args.bound _ _ _ _ c.load-n.ensures c.if-n-eq0.false _ _ c.near-left.ensures c.far-right.ensures c.requires in (omega (arith, g.1), g.0)
 
 pub below-right_gone-requires : goal.below-right_gone-requires
-below-right_gone-requires t c = let g = down_right c.args.bound _ _ _ _ c.load-n.ensures c.if-n-eq0.false _ _ c.near-left.ensures c.far-right.ensures _ _ c.below-left_gone.ensures c.requires in (omega (arith, g.1, c.requires-raw.0), g.0)
+below-right_gone-requires t c = let g = down_right c.args.bound _ _ _ _ c.load-n.ensures c.if-n-eq0.false _ _ c.near-left.ensures c.far-right.ensures _ _ c.below-left_gone.ensures c.requires in (omega (arith, g.1), g.0)
 
 pub copy-requires : goal.copy-requires
 copy-requires t c = let w = seats_in c.args.bound _ _ _ _ c.load-n.ensures c.if-n-eq0.false _ _ c.near-left.ensures c.far-right.ensures _ _ c.below-left_gone.ensures _ _ c.below-right_gone.ensures c.requires in record { within = w.2; within_2 = w.0 }

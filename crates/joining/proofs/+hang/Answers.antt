@@ -38,7 +38,7 @@ pub copy-requires : goal.copy-requires
 copy-requires t c = record { within = rw c.far-inner.ensures (within_inner _ c.args.left _ _ _ _ (read_at _ c.near-high.ensures c.load-n.ensures) (read_at _ c.far.ensures c.load.ensures) c.if-n-load.false c.requires).0; within_2 = rw c.near-high.ensures (both_within _ c.args.left _ _ c.requires).0 }
 
 pub hang-requires : goal.hang-requires
-hang-requires t c = let d = hang_down _ c.args.left _ _ _ _ (read_at _ c.near-high.ensures c.load-n.ensures) (read_at _ c.far.ensures c.load.ensures) c.if-n-load.false _ (copied_at _ _ c.far-inner.ensures c.near-high.ensures c.copy.ensures) c.requires in (rw (← c.requires-raw.0) d.1, both_at _ c.far-inner.ensures d.0)
+hang-requires t c = let d = hang_down _ c.args.left _ _ _ _ (read_at _ c.near-high.ensures c.load-n.ensures) (read_at _ c.far.ensures c.load.ensures) c.if-n-load.false _ (copied_at _ _ c.far-inner.ensures c.near-high.ensures c.copy.ensures) c.requires in (omega (arith, d.1), both_at _ c.far-inner.ensures d.0)
 
 pub balance-requires : goal.balance-requires
 balance-requires t c = hung_both _ c.args.left _ _ _ _ (read_at _ c.near-high.ensures c.load-n.ensures) (read_at _ c.far.ensures c.load.ensures) c.if-n-load.false _ (copied_at _ _ c.far-inner.ensures c.near-high.ensures c.copy.ensures) _ (hangs_at _ _ c.args.left c.far-inner.ensures refl c.hang.ensures) c.requires

@@ -55,7 +55,7 @@ pub overflow_add-below-2 : goal.overflow_add-below-2
 overflow_add-below-2 t c = omega (arith, c.step_down-a.ensures.able.low)
 
 pub descend-d-requires : goal.descend-d-requires
-descend-d-requires t c = rw (whole c.args.mem.now) (omega (arith, c.step_down-a.ensures.lower, c.step_down-b.ensures.lower, c.requires-raw.0), c.step_down-b.ensures.able)
+descend-d-requires t c = rw (whole c.args.mem.now) (omega (arith, c.step_down-a.ensures.lower, c.step_down-b.ensures.lower), c.step_down-b.ensures.able)
 
 pub overflow_add-result : goal.overflow_add-result
 overflow_add-result t c = omega (arith, few _ _ c.args.f _ _ c.step_down-b.ensures.able _ (rw (whole c.args.mem.now) at c.descend-d.ensures).0, c.step_down-b.ensures.few)

@@ -11,7 +11,7 @@ returns-then-not-bounded c = unbounded _ _ _ _ _ _ _ c.get-room.ensures c.get-ch
 pub need-requires : goal.need-requires
 need-requires c =
     let b = says_yes _ c.bounded.result c.bounded.ensures (not-false _ c.if-not-bounded.false-raw) in
-    b.most_room_lem
+    b.most_room
 
 pub returns-then-mem-need : goal.returns-then-mem-need
 returns-then-mem-need c = short _ _ _ _ _ _ _ c.get-room.ensures c.get-channels.ensures c.get-lines.ensures c.get-leap.ensures c.get-floor.ensures c.get-kept.ensures _ c.need.ensures c.if-mem-need.true
@@ -22,7 +22,7 @@ returns-then-get-ne0 c = used _ _ _ _ _ _ _ c.get-room.ensures c.get-channels.en
 pub rises-requires : goal.rises-requires
 rises-requires c =
     let b = says_yes _ c.bounded.result c.bounded.ensures (not-false _ c.if-not-bounded.false-raw) in
-    (c.requires, b.most_lines_lem)
+    (c.requires, b.most_lines)
 
 pub returns-then-not-rises : goal.returns-then-not-rises
 returns-then-not-rises c = falling _ _ _ _ _ _ _ c.get-room.ensures c.get-channels.ensures c.get-lines.ensures c.get-leap.ensures c.get-floor.ensures c.get-kept.ensures c.rises.result c.rises.ensures (not-true _ c.if-not-rises.true-raw)
@@ -30,12 +30,12 @@ returns-then-not-rises c = falling _ _ _ _ _ _ _ c.get-room.ensures c.get-channe
 pub overflow_add-lines : goal.overflow_add-lines
 overflow_add-lines c =
     let b = says_yes _ c.bounded.result c.bounded.ensures (not-false _ c.if-not-bounded.false-raw) in
-    omega (arith, b.most_lines_lem)
+    omega (arith, b.most_lines)
 
 pub zeros-requires : goal.zeros-requires
 zeros-requires c =
     let b = says_yes _ c.bounded.result c.bounded.ensures (not-false _ c.if-not-bounded.false-raw) in
-    (c.requires, omega (arith, b.most_lines_lem))
+    (c.requires, omega (arith, b.most_lines))
 
 pub returns : goal.returns
 returns c =

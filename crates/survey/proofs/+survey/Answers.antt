@@ -51,7 +51,7 @@ pub far-r-requires : goal.far-r-requires
 far-r-requires t c = omega (arith, c.requires.small, says_yes _ c.placed.result c.placed.ensures (not-false _ c.if-not-placed.false-raw))
 
 pub survey-a-requires : goal.survey-a-requires
-survey-a-requires t c = (omega (arith, c.requires-raw.0, c.if-limit-h.false), record { long = c.requires.long; small = c.requires.small; least = omega (arith, c.near-l.ensures, says_yes _ c.placed.result c.placed.ensures (not-false _ c.if-not-placed.false-raw)); most = omega (arith, c.near-l.ensures, says_yes _ c.placed.result c.placed.ensures (not-false _ c.if-not-placed.false-raw)); whole = omega (arith, c.near-l.ensures, says_yes _ c.placed.result c.placed.ensures (not-false _ c.if-not-placed.false-raw)); ends = c.requires.ends; most_floor = c.requires.most_floor })
+survey-a-requires t c = (omega (arith, c.if-limit-h.false), record { long = c.requires.long; small = c.requires.small; least = omega (arith, c.near-l.ensures, says_yes _ c.placed.result c.placed.ensures (not-false _ c.if-not-placed.false-raw)); most = omega (arith, c.near-l.ensures, says_yes _ c.placed.result c.placed.ensures (not-false _ c.if-not-placed.false-raw)); whole = omega (arith, c.near-l.ensures, says_yes _ c.placed.result c.placed.ensures (not-false _ c.if-not-placed.false-raw)); ends = c.requires.ends; most_floor = c.requires.most_floor })
 
 pub shape_of-ends-then-a-eq0 : goal.shape_of-ends-then-a-eq0
 shape_of-ends-then-a-eq0 t c = c.survey-a.auto.ends
@@ -60,7 +60,7 @@ pub returns-then-a-eq0 : goal.returns-then-a-eq0
 returns-then-a-eq0 t c = left_no _ _ _ _ _ _ _ _ _ _ c.load-n.ensures _ _ _ c.near-l.ensures c.if-h-eq0.false c.if-budget-eq0.false c.survey-a.ensures _ c.if-a-eq0.true
 
 pub survey-b-requires : goal.survey-b-requires
-survey-b-requires t c = (omega (arith, c.requires-raw.0, c.if-limit-h.false), record { long = c.requires.long; small = c.requires.small; least = omega (arith, c.far-r.ensures, says_yes _ c.placed.result c.placed.ensures (not-false _ c.if-not-placed.false-raw)); most = omega (arith, c.far-r.ensures, says_yes _ c.placed.result c.placed.ensures (not-false _ c.if-not-placed.false-raw)); whole = omega (arith, c.far-r.ensures, says_yes _ c.placed.result c.placed.ensures (not-false _ c.if-not-placed.false-raw)); ends = omega (arith, c.requires.ends, c.survey-a.auto.ends); most_floor = c.requires.most_floor })
+survey-b-requires t c = (omega (arith, c.if-limit-h.false), record { long = c.requires.long; small = c.requires.small; least = omega (arith, c.far-r.ensures, says_yes _ c.placed.result c.placed.ensures (not-false _ c.if-not-placed.false-raw)); most = omega (arith, c.far-r.ensures, says_yes _ c.placed.result c.placed.ensures (not-false _ c.if-not-placed.false-raw)); whole = omega (arith, c.far-r.ensures, says_yes _ c.placed.result c.placed.ensures (not-false _ c.if-not-placed.false-raw)); ends = omega (arith, c.requires.ends, c.survey-a.auto.ends); most_floor = c.requires.most_floor })
 
 pub shape_of-ends-then-b-eq0 : goal.shape_of-ends-then-b-eq0
 shape_of-ends-then-b-eq0 t c = c.survey-b.auto.ends ∙ c.survey-a.auto.ends
