@@ -1,4 +1,4 @@
-//! The tree's operations, timed through the archive of crate tree_archive (`make bench-tree`) (docs/BENCHMARKS.md).
+//! The tree's operations, timed through the archive of crate tree_archive (`make bench-tree`; docs/BENCHMARKS.md).
 //! Each figure is the median of several rounds, in nanoseconds an operation; the memory is warm.
 use std::time::Instant;
 
