@@ -1,6 +1,7 @@
 -- From what the reader and the opening promise to what the call promises, case by case.
 use mathlib.Core.Path.{◌≡◌, refl, sym, ap, ◌∙◌}
 use mathlib.Core.Bool.{Bool, true, false}
+use Rattle.std.specs.Prelude.{Result, Ok, Err}
 use mathlib.Core.List.{List}
 use Prim.Native.Nat.{ℕ, ◌+◌, ◌*◌, ◌≤◌, ◌<◌}
 use native.Mathlib.Omega.{arith}
@@ -10,7 +11,8 @@ use Rattle.rule.specs.Moments.{last_moment}
 use Rattle.rule.specs.Settings.{Settings, settings, in_bounds}
 use Rattle.rule.specs.SettingsLaws.{in_bounds_lem}
 use Rattle.order.specs.declared.Record.{Record}
-use Rattle.order.specs.declared.Record.TheVariants.{Opening as Read, Booking, Sweep, Refused}
+use Rattle.order.specs.declared.Record.TheVariants.{Opening as Read, Booking, Sweep}
+use Rattle.order.specs.declared.Unread.{Unread}
 use Rattle.order.specs.Records.{Reading, unread, opening, order, Opening, delays_at, reading, opening_only}
 use Rattle.order.specs.Read.{meant, Narrow, ReadsOpening}
 use Rattle.order.specs.Delays.{delays_length}
@@ -28,11 +30,11 @@ only_opening room (unread x) o m m' h = h
 only_opening room (opening n p) o m m' h = h
 only_opening room (order n p) o m m' h = h
 
-module _ (s : List ℕ) (r : Record) (x : ReadsOpening s r) (c l p f u : ℕ) (q : r ≡ Read c l p f u) where
+module _ (s : List ℕ) (r : Result Record Unread) (x : ReadsOpening s r) (c l p f u : ℕ) (q : r ≡ Ok (Read c l p f u)) where
   is_opening : opening_only (reading s) ≡ opening u (said c l p f s)
   is_opening = sym x.is ∙ ap (meant s) q
 
-  narrow : Narrow (Read c l p f u)
+  narrow : Narrow (Ok (Read c l p f u))
   narrow = rw q at x.narrow
 
   pub long : 14 + 4 * l ≤ length s
@@ -72,8 +74,8 @@ module _ (s : List ℕ) (r : Record) (x : ReadsOpening s r) (c l p f u : ℕ) (q
           only_opening room (reading s) _ m m' (rw (is_opening, same_code, one) (refl, o.refused one))
 
 -- any other record: it is no opening
-pub no_opening : (s : List ℕ) (r : Record) → ReadsOpening s r → (room : ℕ) (m : List ℕ) → ((c l p f u : ℕ) → r ≡ Read c l p f u → ⊥) → Opens room s (record { code = 11; used = 0 }) m m
-no_opening s (Read c l p f u) x room m n = absurd (n c l p f u refl)
-no_opening s (Booking a b l u) x room m n = only_opening room (reading s) _ m m (rw (sym x.is) (refl, refl))
-no_opening s (Sweep a u) x room m n = only_opening room (reading s) _ m m (rw (sym x.is) (refl, refl))
-no_opening s (Refused k) x room m n = only_opening room (reading s) _ m m (rw (sym x.is, x.narrow) (refl, refl))
+pub no_opening : (s : List ℕ) (r : Result Record Unread) → ReadsOpening s r → (room : ℕ) (m : List ℕ) → ((c l p f u : ℕ) → r ≡ Ok (Read c l p f u) → ⊥) → Opens room s (record { code = 11; used = 0 }) m m
+no_opening s (Ok (Read c l p f u)) x room m n = absurd (n c l p f u refl)
+no_opening s (Ok (Booking a b l u)) x room m n = only_opening room (reading s) _ m m (rw (sym x.is) (refl, refl))
+no_opening s (Ok (Sweep a u)) x room m n = only_opening room (reading s) _ m m (rw (sym x.is) (refl, refl))
+no_opening s (Err e) x room m n = only_opening room (reading s) _ m m (rw (sym x.is) (refl, refl))

@@ -1,6 +1,8 @@
 -- What opening from a record promises, for every input: the code and the bytes used, and the memory after.
-use Rattle.std.specs.Prelude.{◌≡◌, List, ℕ, zero, suc, length}
+use Rattle.std.specs.Prelude.{◌≡◌, Result, Ok, Err, List, ℕ, zero, suc, length}
 use Rattle.rule.specs.Settings.{Settings, settings}
+use Rattle.rule.specs.declared.refusal.Unopened.{Unopened}
+use Rattle.rule.specs.Refusal.{unopened_of}
 use Rattle.order.specs.Records.{Reading, unread, opening, order, Opening, reading}
 use Rattle.state.specs.Open.{fresh}
 use Rattle.memory.specs.Holds.{After}
@@ -26,3 +28,8 @@ OpensRead room (opening n p) o m m' = OpensAs (opening_code (settings_of room p)
 
 abbrev pub Opens : (room : ℕ) → (bytes : List ℕ) → Opened → (m m' : List ℕ) → Type 0
 Opens room bytes o m m' = OpensRead room (reading bytes) o m m'
+
+-- what is told of an opening: "the code and the bytes used", which are "0 under 1, 2 and 11"
+abbrev pub opened_of : Result ℕ Unopened → Opened
+opened_of (Ok used) = record { code = 0; used = used }
+opened_of (Err why) = record { code = unopened_of why; used = 0 }

@@ -1,7 +1,9 @@
 // Acting on the single record at the start of a buffer (specs/Calls.antt, `Acts`): a run with room for one answer.
+ghost use Rattle.rule.specs.Refusal.{ending_of};
 ghost use Rattle.calls.specs.Calls.{Unused, Acts};
 
 use rule::answer::Answer;
+use rule::refusal::Ending;
 use tally::Tally;
 
 // What a single order gives: the seven numbers and the bytes used.
@@ -20,11 +22,11 @@ pub struct Done {
 }
 
 // A refusal that is no order: nothing used, no count raised.
-fn refused(code: u64, tally: Tally) -> Done
-    ensures { Unused code tally result }
+fn refused(why: Ending, tally: Tally) -> Done
+    ensures { Unused (ending_of why) tally result }
 {
     let answer = Answer {
-        code,
+        code: why.into(),
         channel: 0,
         line: 0,
         start: 0,
@@ -45,11 +47,11 @@ pub fn act(mem: &mut [u8], tally: Tally, bytes: &[u8]) -> Done
     let mut numbers = [0u64; 7];
     let done = running::run(mem, tally, bytes, &mut numbers);
     let ran = done.ran;
-    if ran.code == 2 {
-        return refused(2, tally);
+    if ran.code == u64::from(Ending::NotWhole) {
+        return refused(Ending::NotWhole, tally);
     }
     if ran.answered == 0 {
-        return refused(11, tally);
+        return refused(Ending::Unread, tally);
     }
     let after = done.tally;
     Done {

@@ -1,7 +1,9 @@
 // Opening from the OL record at the start of a buffer (specs/Opens.antt).
-ghost use Rattle.calls.specs.Opens.{Opens};
+ghost use Rattle.calls.specs.Opens.{Opens, opened_of};
 
 use order::Record;
+use rule::refusal::Unopened;
+use ruling::bounds::MOST_LINES;
 
 #[repr(C)]
 #[derive(Clone, Copy)]
@@ -10,30 +12,37 @@ pub struct Opened {
     pub used: usize,
 }
 
+// The bytes used by an opening that is accepted.
+fn try_open(mem: &mut [u8], room: u64, bytes: &[u8]) -> Result<usize, Unopened>
+    ensures { Opens room bytes.now (opened_of result) mem.old mem.new }
+{
+    let Record::Opening {
+        channels,
+        lines,
+        leap,
+        floor,
+        used,
+    } = order::read_opening(bytes)?
+    else {
+        return Err(Unopened::Unread);
+    };
+    if MOST_LINES < lines {
+        return Err(Unopened::OutOfBounds);
+    }
+    let n = lines as usize;
+    let delays = order::delays_of(bytes, n);
+    opening::open(mem, room, channels, leap, floor, &delays[..n])?;
+    Ok(used)
+}
+
 pub fn open(mem: &mut [u8], room: u64, bytes: &[u8]) -> Opened
     ensures { Opens room bytes.now result mem.old mem.new }
 {
-    let read = order::read_opening(bytes);
-    match read {
-        Record::Opening {
-            channels,
-            lines,
-            leap,
-            floor,
-            used,
-        } => {
-            if 16 < lines {
-                return Opened { code: 1, used: 0 };
-            }
-            let n = lines as usize;
-            let delays = order::delays_of(bytes, n);
-            let code = opening::open(mem, room, channels, leap, floor, &delays[..n]);
-            if code == 0 {
-                Opened { code: 0, used }
-            } else {
-                Opened { code: 1, used: 0 }
-            }
-        }
-        _ => Opened { code: 11, used: 0 },
+    match try_open(mem, room, bytes) {
+        Ok(used) => Opened { code: 0, used },
+        Err(why) => Opened {
+            code: why.into(),
+            used: 0,
+        },
     }
 }

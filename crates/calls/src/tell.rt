@@ -1,6 +1,8 @@
 // Telling the number of voids kept (specs/Calls.antt, `Tells`).
 ghost use Rattle.calls.specs.Calls.{Tells};
 
+use rule::refusal::Ending;
+
 #[repr(C)]
 #[derive(Clone, Copy)]
 pub struct Told {
@@ -12,7 +14,10 @@ pub fn tell(mem: &[u8]) -> Told
     ensures { Tells result mem.now }
 {
     if !whole::whole(mem) {
-        return Told { code: 2, voids: 0 };
+        return Told {
+            code: Ending::NotWhole.into(),
+            voids: 0,
+        };
     }
     Told {
         code: 0,

@@ -4,22 +4,14 @@
 ghost use Rattle.std.specs.Prelude.{◌≡◌, ◌+◌, ◌≤◌, ◌*◌, ◌<◌, ◌^◌, length};
 ghost use Rattle.digits.specs.Digits.{digits, field};
 
-fn wide(x: u8) -> u64
-    ensures { (result ≡ x) × (result < 256) }
-{
-    x as u64
-}
-
 // The number that up to eight bytes write: a part of a record, as wide as its field.
 pub fn number(s: &[u8]) -> u64
     requires { length s.now ≤ 8 }
     ensures { (result ≡ digits s.now) × (result < 2 ^ (8 * length s.now)) }
 {
     let mut so_far: u64 = 0;
-    let mut i = 0;
-    while i < s.len() {
-        so_far = so_far * 256 + wide(s[i]);
-        i += 1;
+    for &byte in s {
+        so_far = so_far * 256 + u64::from(byte);
     }
     so_far
 }

@@ -9,23 +9,13 @@ ghost use Rattle.settled.specs.Says.{Says};
 ghost use Rattle.inspect.specs.Inspect.{Single, Joined, Leaf};
 
 use node::Node;
-use numbers::pairs::{larger, smaller};
 use rule::moments::OPEN_END;
 
 // Whether n is a leaf's node, but for its key and its end.
 fn single(n: Node) -> bool
     ensures { Says (Single n) result }
 {
-    if n.height != 0 {
-        return false;
-    }
-    if n.low != n.top {
-        return false;
-    }
-    if n.place != 0 {
-        return false;
-    }
-    true
+    n == node::leaf(n.lo, n.top)
 }
 
 // Whether n sums up x and y, and their heights are balanced.
@@ -33,25 +23,14 @@ pub fn joined(n: Node, x: Node, y: Node) -> bool
     requires { (x.height < 18446744073709551615) × (y.height < 18446744073709551615) }
     ensures { Says (Joined n x y) result }
 {
-    if n.height != larger(x.height, y.height) + 1 {
-        return false;
-    }
-    if n.lo != x.lo {
-        return false;
-    }
-    if n.top != larger(x.top, y.top) {
-        return false;
-    }
-    if n.low != smaller(x.low, y.low) {
-        return false;
-    }
-    if y.height + 1 < x.height {
-        return false;
-    }
-    if x.height + 1 < y.height {
-        return false;
-    }
-    true
+    let over = Node {
+        height: x.height.max(y.height) + 1,
+        lo: x.lo,
+        top: x.top.max(y.top),
+        low: x.low.min(y.low),
+        place: n.place,
+    };
+    n == over && x.height <= y.height + 1 && y.height <= x.height + 1
 }
 
 // Whether a link may have a void with that key and end.
@@ -59,16 +38,10 @@ fn lawful(channels: u64, floor: u64, key: u64, end: u64) -> bool
     requires { floor ≤ last_moment }
     ensures { Says (Lawful channels floor key end) result }
 {
-    if channels <= ruling::key::channel(key) {
-        return false;
-    }
-    if end <= ruling::key::start(key) {
-        return false;
-    }
-    if OPEN_END < end {
-        return false;
-    }
-    ruling::kept::stays(floor, end)
+    ruling::key::channel(key) < channels
+        && ruling::key::start(key) < end
+        && end <= OPEN_END
+        && ruling::kept::stays(floor, end)
 }
 
 // Whether n is a leaf that comes next; its end is then its channel's last.
@@ -76,19 +49,13 @@ pub fn leaf(ends: &mut [u64], channels: u64, floor: u64, after: u64, n: Node) ->
     requires { (channels ≤ length ends.old) × (floor ≤ last_moment) }
     ensures { Leaf channels floor after ends.old ends.new n result }
 {
-    if !single(n) {
-        return false;
-    }
-    if n.lo < after {
-        return false;
-    }
-    if !lawful(channels, floor, n.lo, n.top) {
-        return false;
-    }
     let channel = ruling::key::channel(n.lo) as usize;
-    if ruling::key::start(n.lo) < ends[channel] {
-        return false;
+    let next = single(n)
+        && after <= n.lo
+        && lawful(channels, floor, n.lo, n.top)
+        && ends[channel] <= ruling::key::start(n.lo);
+    if next {
+        ends[channel] = n.top + 1;
     }
-    ends[channel] = n.top + 1;
-    true
+    next
 }

@@ -1,124 +1,86 @@
-// The lines of 01's session (A session in full), written into a text of bytes. Full, the text goes to standard output and
-// begins anew. Each function takes the place to write at and gives the place after what it wrote.
+// The lines of 01's session (A session in full), as they are printed.
 #![tactic(auto)]
 
-ghost use Rattle.std.specs.Prelude.{◌+◌, ◌≤◌, length};
+ghost use Rattle.std.specs.Prelude.{◌≡◌, Some};
+ghost use Rattle.lines.specs.Lines.{line_of, text_of};
 
 use rule::answer::Answer;
+use std::fmt;
 
-// The longest line takes fewer bytes than this.
-const LONGEST: usize = 128;
+// A line, by its letter: L, B, S, R or E. What is answered to a record has the record's number n.
+#[derive(Clone, Copy)]
+pub enum Line {
+    Opening {
+        channels: u64,
+        lines: u64,
+    },
+    Booking {
+        n: u64,
+        channel: u64,
+        line: u64,
+        start: u64,
+        finish: u64,
+    },
+    Sweep {
+        n: u64,
+        dropped: u64,
+    },
+    Refusal {
+        n: u64,
+        code: u64,
+    },
+    Kept {
+        voids: u64,
+    },
+}
 
-// Room for a line more: the text written out, if it is nearly full.
-pub fn room(out: &mut [u8], at: usize) -> usize
-    requires { (at ≤ length out.old) × (128 ≤ length out.old) }
-    ensures { result + 128 ≤ length out.new }
-{
-    if LONGEST <= out.len() - at {
-        return at;
+impl Line {
+    // The line of the n-th record's answer. A booking's finish is never 0: that tells it from a sweep.
+    pub fn answer(n: u64, answer: Answer) -> Line
+        ensures { result ≡ line_of n answer }
+    {
+        match answer {
+            Answer {
+                code: 0,
+                finish: 0,
+                dropped,
+                ..
+            } => Line::Sweep { n, dropped },
+            Answer {
+                code: 0,
+                channel,
+                line,
+                start,
+                finish,
+                ..
+            } => Line::Booking {
+                n,
+                channel,
+                line,
+                start,
+                finish,
+            },
+            Answer { code, .. } => Line::Refusal { n, code },
+        }
     }
-    io::write_all(1, &out[..at]);
-    0
 }
 
-fn byte(out: &mut [u8], at: usize, b: u8) -> usize
-    requires { at + 1 ≤ length out.old }
-    ensures { result ≤ at + 1 }
-{
-    out[at] = b;
-    at + 1
-}
+impl fmt::Display for Line {
+    ghost output = { λ line. Some (text_of line) };
 
-// A number's digits.
-fn digits(out: &mut [u8], at: usize, v: u64) -> usize
-    requires { at + 20 ≤ length out.old }
-    ensures { result ≤ at + 20 }
-{
-    let mut spelt = [0u8; 20];
-    let k = io::decimal(v, &mut spelt);
-    let mut i = 0;
-    while i < k {
-        out[at + i] = spelt[i];
-        i += 1;
+    fn fmt<W: fmt::Write>(&self, f: &mut fmt::Formatter<W>) -> fmt::Result {
+        match *self {
+            Line::Opening { channels, lines } => write!(f, "0 L {channels} {lines}"),
+            Line::Booking {
+                n,
+                channel,
+                line,
+                start,
+                finish,
+            } => write!(f, "{n} B {channel} {line} {start} {finish}"),
+            Line::Sweep { n, dropped } => write!(f, "{n} S {dropped}"),
+            Line::Refusal { n, code } => write!(f, "{n} R {code}"),
+            Line::Kept { voids } => write!(f, "E {voids}"),
+        }
     }
-    at + k
-}
-
-// A blank and a number.
-fn number(out: &mut [u8], at: usize, v: u64) -> usize
-    requires { at + 21 ≤ length out.old }
-    ensures { result ≤ at + 21 }
-{
-    let to = byte(out, at, b' ');
-    digits(out, to, v)
-}
-
-// A number at the start of a line, a blank and a letter.
-fn head(out: &mut [u8], at: usize, n: u64, letter: u8) -> usize
-    requires { at + 22 ≤ length out.old }
-    ensures { result ≤ at + 22 }
-{
-    let a = digits(out, at, n);
-    let b = byte(out, a, b' ');
-    byte(out, b, letter)
-}
-
-// `0 L channels lines`
-pub fn opening(out: &mut [u8], at: usize, channels: u64, lines: u64) -> usize
-    requires { at + 128 ≤ length out.old }
-    ensures { result ≤ at + 128 }
-{
-    let a = head(out, at, 0, b'L');
-    let b = number(out, a, channels);
-    let c = number(out, b, lines);
-    byte(out, c, b'\n')
-}
-
-// `n R code`
-pub fn refusal(out: &mut [u8], at: usize, n: u64, code: u64) -> usize
-    requires { at + 128 ≤ length out.old }
-    ensures { result ≤ at + 128 }
-{
-    let a = head(out, at, n, b'R');
-    let b = number(out, a, code);
-    byte(out, b, b'\n')
-}
-
-// `n S dropped`
-fn sweep(out: &mut [u8], at: usize, n: u64, dropped: u64) -> usize
-    requires { at + 128 ≤ length out.old }
-    ensures { result ≤ at + 128 }
-{
-    let a = head(out, at, n, b'S');
-    let b = number(out, a, dropped);
-    byte(out, b, b'\n')
-}
-
-// `n B channel line start finish`, `n S dropped` or `n R code`. A booking's finish is never 0: that tells it from a sweep.
-pub fn answer(out: &mut [u8], at: usize, n: u64, a: Answer) -> usize
-    requires { at + 128 ≤ length out.old }
-    ensures { result ≤ at + 128 }
-{
-    if a.code != 0 {
-        return refusal(out, at, n, a.code);
-    }
-    if a.finish == 0 {
-        return sweep(out, at, n, a.dropped);
-    }
-    let w = head(out, at, n, b'B');
-    let x = number(out, w, a.channel);
-    let y = number(out, x, a.line);
-    let z = number(out, y, a.start);
-    let f = number(out, z, a.finish);
-    byte(out, f, b'\n')
-}
-
-// `E voids`
-pub fn kept(out: &mut [u8], at: usize, voids: u64) -> usize
-    requires { at + 128 ≤ length out.old }
-    ensures { result ≤ at + 128 }
-{
-    let a = byte(out, at, b'E');
-    let b = number(out, a, voids);
-    byte(out, b, b'\n')
 }

@@ -20,7 +20,7 @@ pub extern "C" fn link_book(mem: &mut [u8], arrival: u64, burst: u64, lines: u64
     requires whole { Whole mem.old }
     ensures { (s : State) → Sound s → Holds mem.old s → Books arrival burst lines result mem.old mem.new s }
 {
-    booking::book(mem, arrival, burst, lines)
+    Answer::of(booking::book(mem, arrival, burst, lines))
 }
 
 #[unsafe(no_mangle)]
@@ -29,7 +29,7 @@ pub extern "C" fn link_sweep(mem: &mut [u8], moment: u64) -> Answer
     requires whole { Whole mem.old }
     ensures { (s : State) → Sound s → Holds mem.old s → Sweeps moment result mem.old mem.new s }
 {
-    sweeping::sweep(mem, moment)
+    Answer::of(sweeping::sweep(mem, moment))
 }
 
 #[unsafe(no_mangle)]

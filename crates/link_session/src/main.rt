@@ -2,78 +2,117 @@
 // lines as crate `session` does from the bytes.
 #![tactic(auto)]
 
-ghost use Rattle.std.specs.Prelude.{◌+◌, ◌≤◌, length};
-ghost use Rattle.rule.specs.Moments.{last_moment};
-ghost use Rattle.rule.specs.Settings.{longest};
 ghost use Rattle.memory.specs.Holds.{Whole};
+ghost use Rattle.link_session.specs.Orders.{InBounds};
 
-// The n-th order, a booking, and its line.
-fn booked(
-    mem: &mut [u8],
-    n: u64,
-    arrival: u64,
-    burst: u64,
-    lines: u64,
-    out: &mut [u8],
-    at: usize,
-) -> usize
-    requires arrival_le_last_moment { (arrival ≤ last_moment) × (burst ≤ longest) }
-    requires whole { Whole mem.old }
-    requires at_in_bounds { at + 128 ≤ length out.old }
-    ensures { Whole mem.new × (result ≤ at + 128) }
-{
-    let answer = booking::book(mem, arrival, burst, lines);
-    lines::answer(out, at, n, answer)
-}
+use lines::Line;
+use rule::answer::Answer;
+use std::io;
 
-// The n-th order, a sweep, and its line.
-fn swept(mem: &mut [u8], n: u64, moment: u64, out: &mut [u8], at: usize) -> usize
-    requires moment_le_last_moment { moment ≤ last_moment }
-    requires whole { Whole mem.old }
-    requires at_in_bounds { at + 128 ≤ length out.old }
-    ensures { Whole mem.new × (result ≤ at + 128) }
-{
-    let answer = sweeping::sweep(mem, moment);
-    lines::answer(out, at, n, answer)
+// An order on the link, with what its record would say of it.
+#[derive(Clone, Copy)]
+enum Order {
+    Book {
+        arrival: u64,
+        burst: u64,
+        lines: u64,
+    },
+    Sweep {
+        moment: u64,
+    },
 }
 
 // The ten orders.
-fn play(mem: &mut [u8], out: &mut [u8], at: usize) -> usize
+const ORDERS: [Order; 10] = [
+    Order::Book {
+        arrival: 10,
+        burst: 5,
+        lines: 0,
+    },
+    Order::Book {
+        arrival: 12,
+        burst: 2,
+        lines: 0,
+    },
+    Order::Book {
+        arrival: 14,
+        burst: 3,
+        lines: 0,
+    },
+    Order::Book {
+        arrival: 15,
+        burst: 4,
+        lines: 1,
+    },
+    Order::Book {
+        arrival: 16,
+        burst: 1,
+        lines: 1,
+    },
+    Order::Book {
+        arrival: 16,
+        burst: 1,
+        lines: 0,
+    },
+    Order::Sweep { moment: 11 },
+    Order::Book {
+        arrival: 9,
+        burst: 1,
+        lines: 0,
+    },
+    Order::Book {
+        arrival: 19,
+        burst: 2,
+        lines: 0,
+    },
+    Order::Sweep { moment: 10 },
+];
+
+// The link's answer to an order.
+fn answer(mem: &mut [u8], order: Order) -> Answer
+    requires in_bounds { InBounds order }
     requires whole { Whole mem.old }
-    requires at_in_bounds { at + 1280 ≤ length out.old }
-    ensures { result ≤ at + 1280 }
+    ensures { Whole mem.new }
 {
-    let a = booked(mem, 1, 10, 5, 0, out, at);
-    let b = booked(mem, 2, 12, 2, 0, out, a);
-    let c = booked(mem, 3, 14, 3, 0, out, b);
-    let d = booked(mem, 4, 15, 4, 1, out, c);
-    let e = booked(mem, 5, 16, 1, 1, out, d);
-    let f = booked(mem, 6, 16, 1, 0, out, e);
-    let g = swept(mem, 7, 11, out, f);
-    let h = booked(mem, 8, 9, 1, 0, out, g);
-    let i = booked(mem, 9, 19, 2, 0, out, h);
-    swept(mem, 10, 10, out, i)
+    match order {
+        Order::Book {
+            arrival,
+            burst,
+            lines,
+        } => Answer::of(booking::book(mem, arrival, burst, lines)),
+        Order::Sweep { moment } => Answer::of(sweeping::sweep(mem, moment)),
+    }
+}
+
+// The ten orders, and a line for each.
+fn play(rt: &impl Print, mem: &mut [u8]) -> io::Result<()>
+    requires { Whole mem.old }
+{
+    for (n, order) in (1..).zip(ORDERS) {
+        println!(rt; "{}", Line::answer(n, answer(mem, order)))?;
+    }
+    Ok(())
 }
 
 // The opening: 2 channels, leap 1000, floor 0, one line of 5, room 256. Then the orders, and the voids kept.
-fn session(mem: &mut [u8], out: &mut [u8], delays: &[u64]) -> usize
-    requires { 2048 ≤ length out.old }
-    ensures { result ≤ 2048 }
-{
-    let code = opening::open(mem, 256, 2, 1000, 0, delays);
-    if code != 0 {
-        return lines::refusal(out, 0, 0, code);
+fn session(rt: &impl Print, mem: &mut [u8]) -> io::Result<()> {
+    if let Err(why) = opening::open(mem, 256, 2, 1000, 0, &[5]) {
+        let code = why.into();
+        return println!(rt; "{}", Line::Refusal { n: 0, code });
     }
-    let at = lines::opening(out, 0, 2, 1);
-    let end = play(mem, out, at);
-    let told = calls::tell::tell(mem);
-    lines::kept(out, end, told.voids)
+    println!(rt;
+        "{}",
+        Line::Opening {
+            channels: 2,
+            lines: 1
+        }
+    )?;
+    play(rt, mem)?;
+    let voids = calls::tell::tell(mem).voids;
+    println!(rt; "{}", Line::Kept { voids })
 }
 
-fn main() {
+fn main(rt: HostRuntime) -> io::Result<()> {
     let mut mem = [0u8; 20728];
-    let mut out = [0u8; 2048];
-    let delays = [5u64; 1];
-    let end = session(&mut mem, &mut out, &delays);
-    io::write_all(1, &out[..end]);
+    session(&rt, &mut mem)
 }

@@ -24,6 +24,9 @@ pub const LEAP: usize = 3;
 
 pub const FLOOR: usize = 4;
 
+// The one that says nothing: it is 0.
+pub const UNUSED: usize = 5;
+
 pub const KEPT: usize = 6;
 
 pub const SPARE: usize = 7;

@@ -27,7 +27,7 @@ pub const PLACE_WORDS: u64 = 8;
 pub const HALF_WORD: u64 = 4294967296;
 
 // A node's height, its sums, and the place of its children, known by its left seat (of a spare place: the number of the next one).
-#[derive(Clone, Copy)]
+#[derive(Clone, Copy, PartialEq, Eq)]
 pub struct Node {
     pub height: u64,
     pub lo: u64,

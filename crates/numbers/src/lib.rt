@@ -1,7 +1,6 @@
-// Numbers: words of 64 bits in lent memory, the larger of two, the whole part of log2.
+// Numbers: words of 64 bits in lent memory, the whole part of log2.
 // The lowest crate: nobody above it speaks of a byte's place inside a word.
 #![tactic(auto)]
 
-pub mod pairs;
 pub mod powers;
 pub mod words;

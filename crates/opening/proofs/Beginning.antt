@@ -1,5 +1,5 @@
 -- One channel, written into memory of any content: delays, header, leaf, spare places.
-use mathlib.Core.Path.{◌≡◌, refl, sym, ap, ◌∙◌}
+use mathlib.Core.Path.{◌≡◌, refl, sym, ◌∙◌}
 use mathlib.Core.Logic.{inr}
 use mathlib.Core.List.{List, [], ◌∷◌}
 use Prim.Native.Nat.{ℕ, zero, suc, ◌+◌, ◌-◌, ◌^◌, ◌≤◌, ◌<◌}
@@ -15,8 +15,7 @@ use Rattle.rule.specs.Settings.{most_room, most_lines, settings}
 use Rattle.rule.specs.Key.{key_of}
 use Rattle.shape.specs.Tree.{leaf, same}
 use Rattle.shape.specs.PlaceLaws.{same_other, same_most}
-use Rattle.node.specs.declared.Node.{Node}
-use Rattle.node.specs.Layout.{root_seat, Within, Fits, Saved, leaf_node}
+use Rattle.node.specs.Layout.{root_seat, Saved, leaf_node}
 use Rattle.node.proofs.Frames.{word_kept}
 use Rattle.node.proofs.Reps.{leaf_stands}
 use Rattle.state.specs.State.{first, places}
@@ -26,7 +25,7 @@ use Rattle.state.specs.OpenLaws.{length_up}
 use Rattle.memory.specs.Header.{padded, Heads, need}
 use Rattle.memory.specs.Holds.{Spares, Gives, Past, After}
 use Rattle.memory.specs.Part.{Part}
-use Rattle.memory.proofs.Parts.{below_is, past_none, past_then, past_kept, heads_put, part_give, padded_at, length_padded, closed}
+use Rattle.memory.proofs.Parts.{below_is, past_then, past_kept, heads_put, part_give, padded_at, length_padded, closed}
 use Rattle.opening.specs.Stages.{Tail, bare_header, Draft, Laid}
 
 -- ---- a word of the header is before all nodes
@@ -34,9 +33,6 @@ past_header : (m : List ℕ) (i v : ℕ) → i < 28 → Past 224 m (store m i v)
 past_header m i v h = record { len = length_store m i v; byte = λ b l. byte_other m i v b (inr (omega arith)) }
 
 -- ---- the delays
-pub tail_0 : (ds m : List ℕ) → Tail 0 ds m m
-tail_0 ds m = record { words = λ i l. absurd (omega arith); past = past_none 224 m }
-
 pub tail_step : (ds m m1 m2 : List ℕ) (k v : ℕ) → 224 ≤ length m → k < 20 → v < 2 ^ 64 → v ≡ get_or ds k 0 → Tail k ds m m1 → m2 ≡ store m1 (8 + k) v → Tail (k + 1) ds m m2
 tail_step ds m m1 m2 k v long lk lv ev t e =
     rw e (record {
@@ -46,9 +42,6 @@ tail_step ds m m1 m2 k v long lk lv ev t e =
       ];
       past = past_then t.past (past_header m1 (8 + k) v (omega arith));
     })
-
-pub tail_end : (ds m m1 : List ℕ) (k : ℕ) → k ≤ 20 → 20 ≤ k → Tail k ds m m1 → Tail 20 ds m m1
-tail_end ds m m1 k a b t = let e : k ≡ 20 = omega arith in rw e at t
 
 -- ---- the header
 heads_tail : (ds m : List ℕ) → ((i : ℕ) → i < 20 → word m (8 + i) ≡ get_or ds i 0)
@@ -104,19 +97,11 @@ among_before : (p n z : ℕ) → z < p → among z (up_from p n) ≡ 0
 among_before p zero z h = refl
 among_before p (suc n) z h = omega (arith, same_other z p (omega arith), among_before (p + 1) n z (omega arith))
 
-set_self : (l : List ℕ) (i : ℕ) → set l i (get_or l i 0) ≡ l
-set_self [] i = refl
-set_self (x ∷ xs) zero = refl
-set_self (x ∷ xs) (suc i) = ap (λ (r : List ℕ). x ∷ r) (set_self xs i)
-
 up_step : (n k : ℕ) → k < n → up_from (n + 1 - (k + 1)) (k + 1) ≡ (n - k) ∷ up_from (n + 1 - k) k
 up_step n k h =
     let a : n + 1 - (k + 1) ≡ n - k = omega arith in
     let b : n - k + 1 ≡ n + 1 - k = omega arith in
     rw (a, add-one k, b)
-
-pub laid_0 : (m : List ℕ) (n : ℕ) → Laid n 0 m m
-laid_0 m n m0 h t P e f = rw (← e, set_self h 7) P
 
 pub laid_step : (m m1 m2 : List ℕ) (n k : ℕ) → k < n → Laid n k m m1 → Gives (n - k) k m1 m2 → Laid n (k + 1) m m2
 laid_step m m1 m2 n k l L s m0 h t P e f =
@@ -135,9 +120,6 @@ pub laid_end : (m m1 : List ℕ) (n k : ℕ) → k ≤ n → n ≤ k → Laid n 
 laid_end m m1 n k a b L = let e : k ≡ n = omega arith in rw e at L
 
 -- ---- the whole
-pub save_pre : (m m1 ds : List ℕ) (room leap floor : ℕ) (n : Node) {k e : ℕ} → need room ≤ length m → Draft (bare_header room leap floor ds) m m1 → n ≡ leaf_node k e → (Within m1 root_seat) × Fits n
-save_pre m m1 ds room leap floor n long d q = (omega (arith, d.past.len), rw q (omega arith))
-
 module _ (m m1 m2 ds : List ℕ) (room leap floor : ℕ) (long : need room ≤ length m) (small : room ≤ most_room) (d : Draft (bare_header room leap floor ds) m m1)
     (key : ℕ) (ek : key ≡ key_of floor 0) (s : Saved root_seat (leaf_node key open_end) m1 m2) where
   abbrev h : List ℕ

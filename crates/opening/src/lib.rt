@@ -4,8 +4,10 @@
 ghost use Rattle.std.specs.Prelude.{◌≡◌, ◌≤◌};
 ghost use Rattle.rule.specs.Moments.{last_moment};
 ghost use Rattle.rule.specs.Settings.{settings};
-ghost use Rattle.opening.specs.Opening.{Opens};
+ghost use Rattle.opening.specs.Opening.{Opens, opened_code};
 ghost use Rattle.opening.specs.Stages.{Narrow, Widens};
+
+use rule::refusal::Unopened;
 
 pub mod single;
 
@@ -14,26 +16,32 @@ fn widen(mem: &mut [u8], channels: u64, floor: u64)
     requires { Narrow channels floor mem.old }
     ensures { Widens channels floor mem.old mem.new }
 {
-    let mut c: u64 = 1;
-    while c < channels {
-        numbers::words::put(mem, memory::CHANNELS, c + 1);
-        memory::add(mem, ruling::key::key(floor, c), rule::moments::OPEN_END);
-        c += 1;
+    for channel in 1..channels {
+        numbers::words::put(mem, memory::CHANNELS, channel + 1);
+        memory::add(
+            mem,
+            ruling::key::key(floor, channel),
+            rule::moments::OPEN_END,
+        );
     }
 }
 
-// Opens a link in memory of any content. The code: 0 or 1.
-pub fn open(mem: &mut [u8], room: u64, channels: u64, leap: u64, floor: u64, delays: &[u64]) -> u64
+// Opens a link in memory of any content; refused, it is as it was.
+pub fn open(
+    mem: &mut [u8],
+    room: u64,
+    channels: u64,
+    leap: u64,
+    floor: u64,
+    delays: &[u64],
+) -> Result<(), Unopened>
     requires { floor ≤ last_moment }
-    ensures { Opens (settings room channels leap delays.now) floor mem.old mem.new result }
+    ensures { Opens (settings room channels leap delays.now) floor mem.old mem.new (opened_code result) }
 {
-    if !ruling::bounds::in_bounds(room, channels, leap, delays) {
-        return 1;
-    }
-    if mem.len() < memory::need(room) {
-        return 1;
+    if !ruling::bounds::in_bounds(room, channels, leap, delays) || mem.len() < memory::need(room) {
+        return Err(Unopened::OutOfBounds);
     }
     single::open_single(mem, room, leap, floor, delays);
     widen(mem, channels, floor);
-    0
+    Ok(())
 }

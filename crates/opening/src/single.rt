@@ -11,14 +11,11 @@ ghost use Rattle.opening.specs.Stages.{Tail, bare_header, Draft, Laid};
 
 use numbers::words::put;
 
-// The word of the header that says nothing: it is 0.
-const UNUSED: usize = 5;
-
 // The delay of line i + 1, and 0 where there is none.
 fn delay(delays: &[u64], i: usize) -> u64
     ensures { result ≡ get_or delays.now i 0 }
 {
-    if i < delays.len() { delays[i] } else { 0 }
+    delays.get(i).copied().unwrap_or(0)
 }
 
 // The header's last twenty words: the delays, then zeros.
@@ -26,10 +23,8 @@ fn put_delays(mem: &mut [u8], delays: &[u64])
     requires { 224 ≤ length mem.old }
     ensures { Tail 20 delays.now mem.old mem.new }
 {
-    let mut i = 0;
-    while i < 20 {
+    for i in 0..20 {
         put(mem, memory::DELAYS + i, delay(delays, i));
-        i += 1;
     }
 }
 
@@ -44,7 +39,7 @@ fn put_header(mem: &mut [u8], room: u64, leap: u64, floor: u64, delays: &[u64])
     put(mem, memory::LINES, delays.len() as u64);
     put(mem, memory::LEAP, leap);
     put(mem, memory::FLOOR, floor);
-    put(mem, UNUSED, 0);
+    put(mem, memory::UNUSED, 0);
     put(mem, memory::KEPT, 1);
     put(mem, memory::SPARE, 0);
 }
@@ -54,10 +49,8 @@ fn lay(mem: &mut [u8], n: u64)
     requires { (need n ≤ length mem.old) × (n < most_places) × (word mem.old 7 < 65536) }
     ensures { Laid n n mem.old mem.new }
 {
-    let mut k = 0;
-    while k < n {
+    for k in 0..n {
         memory::give_spare(mem, n - k, k);
-        k += 1;
     }
 }
 

@@ -8,7 +8,9 @@ use lib.ListN.{length, take, length-take}
 use Rattle.numbers.specs.Case.{case_le}
 use Rattle.digits.specs.Digits.{field}
 use Rattle.digits.proofs.DigitLaws.{field_front}
+use Rattle.std.specs.Prelude.{Result}
 use Rattle.order.specs.declared.Record.{Record}
+use Rattle.order.specs.declared.Unread.{Unread}
 use Rattle.order.specs.Records.{Reading, unread, opening, order, whole, delays_at, opening_of, booking_of, compact_of, sweep_of, by_mark, reading, used_by, opening_only}
 use Rattle.order.specs.Kinds.{by_mark_lem}
 use Rattle.order.specs.Read.{meant, Narrow, Reads, ReadsOpening}
@@ -98,7 +100,7 @@ alone s t = elim (case_le 2 (length s)) [
         elim (case_le 2 (length t)) [ inl b ↦ rw (b.1, ← f) (A.alike h e) | inr b ↦ absurd (omega (arith, A.long h)) ]
 
 -- an answer that says what is read
-pub reads : (s : List ℕ) (r : Record) → meant s r ≡ reading s → Narrow r → Reads s r
+pub reads : (s : List ℕ) (r : Result Record Unread) → meant s r ≡ reading s → Narrow r → Reads s r
 reads s r q n = record { is = q; narrow = n; inside = inside s; alone = alone s }
 
 -- the same of one that speaks of openings alone
@@ -107,5 +109,5 @@ opening_inside n (unread x) h = h
 opening_inside n (opening u o) h = h
 opening_inside n (order u o) h = omega arith
 
-pub reads_opening : (s : List ℕ) (r : Record) → meant s r ≡ opening_only (reading s) → Narrow r → ReadsOpening s r
+pub reads_opening : (s : List ℕ) (r : Result Record Unread) → meant s r ≡ opening_only (reading s) → Narrow r → ReadsOpening s r
 reads_opening s r q n = record { is = q; narrow = n; inside = opening_inside (length s) (reading s) (inside s); alone = alone s }

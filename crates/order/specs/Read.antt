@@ -1,30 +1,31 @@
 -- What the reader's answer, an enum, says in 01's numbers and values, and what its contract promises.
-use Rattle.std.specs.Prelude.{◌≡◌, List, ℕ, ◌+◌, ◌*◌, ◌^◌, ◌≤◌, ◌<◌, leb, length, take}
+use Rattle.std.specs.Prelude.{◌≡◌, List, Result, Ok, Err, ℕ, ◌+◌, ◌*◌, ◌^◌, ◌≤◌, ◌<◌, leb, length, take}
 use Rattle.numbers.specs.Case.{pick}
 use Rattle.digits.specs.Digits.{field}
 use Rattle.rule.specs.Moments.{last_moment}
 use Rattle.rule.specs.Settings.{longest}
 use Rattle.rule.specs.Order.{booking, sweep}
 use Rattle.order.specs.declared.Record.{Record}
-use Rattle.order.specs.declared.Record.TheVariants.{Opening, Booking, Sweep, Refused}
+use Rattle.order.specs.declared.Record.TheVariants.{Opening, Booking, Sweep}
+use Rattle.order.specs.declared.Unread.{Unread}
 use Rattle.order.specs.Records.{Reading, unread, opening, order, delays_at, reading, used_by, opening_only}
 
--- each case in 01's values; an opening's delays stay in its bytes
-abbrev pub meant : List ℕ → Record → Reading
-meant bytes (Opening channels lines leap floor used) = opening used (record { channels = channels; delays = delays_at 14 lines bytes; leap = leap; floor = floor })
-meant bytes (Booking arrival length lines used) = order used (booking arrival length lines)
-meant bytes (Sweep moment used) = order used (sweep moment)
-meant bytes (Refused code) = unread code
+-- each case in 01's values; an opening's delays stay in its bytes. What is no record is refused by 11
+abbrev pub meant : List ℕ → Result Record Unread → Reading
+meant bytes (Ok (Opening channels lines leap floor used)) = opening used (record { channels = channels; delays = delays_at 14 lines bytes; leap = leap; floor = floor })
+meant bytes (Ok (Booking arrival length lines used)) = order used (booking arrival length lines)
+meant bytes (Ok (Sweep moment used)) = order used (sweep moment)
+meant bytes (Err _) = unread 11
 
 -- how large the values can be: as wide as their fields; and an opening's length
-abbrev pub Narrow : Record → Type 0
-Narrow (Opening channels lines leap floor used) = (channels < 256) × (lines < 256) × (leap ≤ longest) × (floor ≤ last_moment) × (used ≡ 14 + 4 * lines)
-Narrow (Booking arrival length lines used) = (arrival ≤ last_moment) × (length ≤ longest) × (lines < 2 ^ 16)
-Narrow (Sweep moment used) = moment ≤ last_moment
-Narrow (Refused code) = code ≡ 11
+abbrev pub Narrow : Result Record Unread → Type 0
+Narrow (Ok (Opening channels lines leap floor used)) = (channels < 256) × (lines < 256) × (leap ≤ longest) × (floor ≤ last_moment) × (used ≡ 14 + 4 * lines)
+Narrow (Ok (Booking arrival length lines used)) = (arrival ≤ last_moment) × (length ≤ longest) × (lines < 2 ^ 16)
+Narrow (Ok (Sweep moment used)) = moment ≤ last_moment
+Narrow (Err _) = Unit
 
 -- what `read` promises of its answer r to these bytes
-pub record Reads (bytes : List ℕ) (r : Record) : Type 0 where
+pub record Reads (bytes : List ℕ) (r : Result Record Unread) : Type 0 where
   pub is : meant bytes r ≡ reading bytes
   pub narrow : Narrow r
   pub inside : used_by (reading bytes) ≤ length bytes
@@ -32,7 +33,7 @@ pub record Reads (bytes : List ℕ) (r : Record) : Type 0 where
   pub alone : (other : List ℕ) → 1 ≤ used_by (reading bytes) → take (used_by (reading bytes)) bytes ≡ take (used_by (reading bytes)) other → reading other ≡ reading bytes
 
 -- what `read_opening` promises of its answer r to these bytes
-pub record ReadsOpening (bytes : List ℕ) (r : Record) : Type 0 where
+pub record ReadsOpening (bytes : List ℕ) (r : Result Record Unread) : Type 0 where
   pub is : meant bytes r ≡ opening_only (reading bytes)
   pub narrow : Narrow r
   pub inside : used_by (opening_only (reading bytes)) ≤ length bytes

@@ -2,14 +2,16 @@
 // Every byte string is answered; nothing here knows a link.
 #![tactic(auto)]
 
-ghost use Rattle.std.specs.Prelude.{◌≡◌, ◌+◌, ◌*◌, ◌^◌, ◌≤◌, ◌<◌, length, take};
+ghost use Rattle.std.specs.Prelude.{◌≡◌, ◌+◌, ◌*◌, ◌^◌, ◌≤◌, ◌<◌, ◌↔◌, IsOk, length, take};
+ghost use Rattle.rule.specs.Refusal.{unopened_of};
 ghost use Rattle.order.specs.Records.{delays_at, opening_of, booking_of, compact_of, sweep_of};
 ghost use Rattle.order.specs.Read.{meant, Narrow, Reads, ReadsOpening, delay_of};
 
 use digits::field;
+use rule::refusal::Unopened;
 
-// What a record says, with its length, or the code it is refused with. A compact booking is a booking with no line
-// permitted; an opening's delays stay in the record (`delay`).
+// What a record says, with its length. A compact booking is a booking with no line permitted; an opening's delays stay
+// in the record (`delay`).
 #[derive(Clone, Copy)]
 pub enum Record {
     Opening {
@@ -29,106 +31,115 @@ pub enum Record {
         moment: u64,
         used: usize,
     },
-    Refused {
-        code: u64,
-    },
 }
 
-fn opening(s: &[u8]) -> Record
+// The bytes say no record: "unknown mark, .. record cut short, or no byte at all".
+#[derive(Clone, Copy)]
+pub struct Unread;
+
+impl From<Unread> for Unopened {
+    ghost from_gives = { λ _ why. unopened_of why ≡ 11 };
+
+    fn from(_: Unread) -> Unopened {
+        Unopened::Unread
+    }
+}
+
+// "record cut short": a record of n bytes is to be there whole.
+fn whole(s: &[u8], n: usize) -> Result<(), Unread>
+    ensures { IsOk result ↔ (n ≤ length s.now) }
+{
+    if s.len() < n {
+        return Err(Unread);
+    }
+    Ok(())
+}
+
+#[tactic(auto, unfolding(crate::specs::Records::opening_of))]
+fn opening(s: &[u8]) -> Result<Record, Unread>
     ensures { (meant s.now result ≡ opening_of s.now) × Narrow result }
 {
-    if s.len() < 14 {
-        return Record::Refused { code: 11 };
-    }
+    whole(s, 14)?;
     let lines = field(s, 3, 1);
     let used = 14 + 4 * (lines as usize);
-    if s.len() < used {
-        return Record::Refused { code: 11 };
-    }
+    whole(s, used)?;
     let channels = field(s, 2, 1);
     let leap = field(s, 4, 4);
     let floor = field(s, 8, 6);
-    Record::Opening {
+    Ok(Record::Opening {
         channels,
         lines,
         leap,
         floor,
         used,
-    }
+    })
 }
 
-fn booking(s: &[u8]) -> Record
+#[tactic(auto, unfolding(crate::specs::Records::booking_of))]
+fn booking(s: &[u8]) -> Result<Record, Unread>
     ensures { (meant s.now result ≡ booking_of s.now) × Narrow result }
 {
-    if s.len() < 14 {
-        return Record::Refused { code: 11 };
-    }
+    whole(s, 14)?;
     let arrival = field(s, 2, 6);
     let length = field(s, 8, 4);
     let lines = field(s, 12, 2);
-    Record::Booking {
+    Ok(Record::Booking {
         arrival,
         length,
         lines,
         used: 14,
-    }
+    })
 }
 
-fn compact(s: &[u8]) -> Record
+#[tactic(auto, unfolding(crate::specs::Records::compact_of))]
+fn compact(s: &[u8]) -> Result<Record, Unread>
     ensures { (meant s.now result ≡ compact_of s.now) × Narrow result }
 {
-    if s.len() < 10 {
-        return Record::Refused { code: 11 };
-    }
+    whole(s, 10)?;
     let arrival = field(s, 2, 6);
     let length = field(s, 8, 2);
-    Record::Booking {
+    Ok(Record::Booking {
         arrival,
         length,
         lines: 0,
         used: 10,
-    }
+    })
 }
 
-fn sweep(s: &[u8]) -> Record
+#[tactic(auto, unfolding(crate::specs::Records::sweep_of))]
+fn sweep(s: &[u8]) -> Result<Record, Unread>
     ensures { (meant s.now result ≡ sweep_of s.now) × Narrow result }
 {
-    if s.len() < 8 {
-        return Record::Refused { code: 11 };
-    }
+    whole(s, 8)?;
     let moment = field(s, 2, 6);
-    Record::Sweep { moment, used: 8 }
+    Ok(Record::Sweep { moment, used: 8 })
 }
 
 // What the record at the start of the bytes says.
-pub fn read(s: &[u8]) -> Record
+pub fn read(s: &[u8]) -> Result<Record, Unread>
     ensures { Reads s.now result }
 {
-    if s.len() < 2 {
-        return Record::Refused { code: 11 };
-    }
+    whole(s, 2)?;
     let mark = field(s, 0, 2) as u16;
     match mark {
         0x4F4C => opening(s),
         0x4F42 => booking(s),
         0x4F43 => compact(s),
         0x4F53 => sweep(s),
-        _ => Record::Refused { code: 11 },
+        _ => Err(Unread),
     }
 }
 
 // What an opening at the start of the bytes says; any other mark is refused. Opening has a reader of its own so that `read`,
 // called by a run's loop alone, is compiled into that loop (docs/DECISIONS.md).
-pub fn read_opening(s: &[u8]) -> Record
+pub fn read_opening(s: &[u8]) -> Result<Record, Unread>
     ensures { ReadsOpening s.now result }
 {
-    if s.len() < 2 {
-        return Record::Refused { code: 11 };
-    }
+    whole(s, 2)?;
     let mark = field(s, 0, 2) as u16;
     match mark {
         0x4F4C => opening(s),
-        _ => Record::Refused { code: 11 },
+        _ => Err(Unread),
     }
 }
 
@@ -152,10 +163,8 @@ pub fn delays_of(bytes: &[u8], n: usize) -> [u64; 16]
     ensures { (length result ≡ 16) × (take n result ≡ delays_at 14 n bytes.now) }
 {
     let mut delays = [0u64; 16];
-    let mut i = 0;
-    while i < n {
+    for i in 0..n {
         delays[i] = delay(bytes, i);
-        i += 1;
     }
     delays
 }

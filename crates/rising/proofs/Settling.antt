@@ -1,7 +1,7 @@
 -- The way up, step by step: by a balance (Rising) and by summing up (Settling), to the first seat of the way, the root's.
 use mathlib.Core.Path.{◌≡◌, sym, ap, subst, ◌∙◌}
 use mathlib.Core.List.{List}
-use Prim.Native.Nat.{ℕ, zero, suc, ◌-◌, ◌≤◌}
+use Prim.Native.Nat.{ℕ, zero, suc, ◌+◌, ◌-◌, ◌≤◌}
 use native.Mathlib.Omega.{arith}
 use lib.ListN.{get_or}
 use Rattle.node.specs.declared.Node.{Node}
@@ -104,12 +104,15 @@ module _ (c : Change) (m0 : List ℕ) (t d : ℕ) (ws : List ℕ) where
     next : suc (i - 1) ≡ i
     next = omega arith
 
+    plain : suc (i - 1) ≡ i - 1 + 1
+    plain = omega arith
+
     module _ (m : List ℕ) (R : Rising c m0 t d ws i m) where
       back : Rising c m0 t d ws (suc (i - 1)) m
       back = subst (λ z. Rising c m0 t d ws z m) (sym next) R
 
-      pub both_above : Both m (at (i - 1)) (home (at i))
-      both_above = subst (λ z. Both m (at (i - 1)) (home (at z))) next (rising_both (i - 1) m back)
+      pub both_above : Both m (at (i - 1)) (home (at (i - 1 + 1)))
+      both_above = subst (λ z. Both m (at (i - 1)) (home (at z))) plain (rising_both (i - 1) m back)
 
       pub within_above : Within m (at (i - 1))
       within_above = rising_in (i - 1) m back
@@ -117,19 +120,19 @@ module _ (c : Change) (m0 : List ℕ) (t d : ℕ) (ws : List ℕ) where
       pub node_above : node_at m (at (i - 1)) ≡ node_at m0 (at (i - 1))
       node_above = rising_node (i - 1) m back
 
-      pub rises : Turned c → (m2 : List ℕ) → Balances (at (i - 1)) (home (at i)) m m2 → Rising c m0 t d ws (i - 1) m2
-      rises T m2 o = rising_next (i - 1) m back T m2 (subst (λ z. Balances (at (i - 1)) (home (at z)) m m2) (sym next) o)
+      pub rises : Turned c → (m2 : List ℕ) → Balances (at (i - 1)) (home (at (i - 1 + 1))) m m2 → Rising c m0 t d ws (i - 1) m2
+      rises T m2 o = rising_next (i - 1) m back T m2 (subst (λ z. Balances (at (i - 1)) (home (at z)) m m2) (sym plain) o)
 
     module _ (m : List ℕ) (S : Settling c m0 t d ws i m) where
       back_settling : Settling c m0 t d ws (suc (i - 1)) m
       back_settling = subst (λ z. Settling c m0 t d ws z m) (sym next) S
 
-      pub summable_above : Summable m (at (i - 1)) (home (at i))
-      summable_above = subst (λ z. Summable m (at (i - 1)) (home (at z))) next (settling_in (i - 1) m back_settling)
+      pub summable_above : Summable m (at (i - 1)) (home (at (i - 1 + 1)))
+      summable_above = subst (λ z. Summable m (at (i - 1)) (home (at z))) plain (settling_in (i - 1) m back_settling)
 
-      module _ (m2 : List ℕ) (o : Summed (at (i - 1)) (home (at i)) m m2) where
+      module _ (m2 : List ℕ) (o : Summed (at (i - 1)) (home (at (i - 1 + 1))) m m2) where
         summed : Summed (at (i - 1)) (home (at (suc (i - 1)))) m m2
-        summed = subst (λ z. Summed (at (i - 1)) (home (at z)) m m2) (sym next) o
+        summed = subst (λ z. Summed (at (i - 1)) (home (at z)) m m2) (sym plain) o
 
         pub settles : Settling c m0 t d ws (i - 1) m2
         settles = settling_next (i - 1) m back_settling m2 summed

@@ -11,10 +11,8 @@ pub fn settle(mem: &mut [u8], way: &[u16], from: usize)
     requires { Settled way.now from mem.old }
     ensures { Settles way.now from mem.old mem.new }
 {
-    let mut i = from;
-    while 0 < i {
-        let q = way[i] as u64 / PLACE_WORDS * PLACE_WORDS;
-        i -= 1;
+    for i in (0..from).rev() {
+        let q = way[i + 1] as u64 / PLACE_WORDS * PLACE_WORDS;
         if !summing::sum_up(mem, way[i] as usize, q) {
             return;
         }
@@ -26,10 +24,8 @@ pub fn rise(mem: &mut [u8], way: &[u16], from: usize)
     requires { Risen way.now from mem.old }
     ensures { Rises way.now from mem.old mem.new }
 {
-    let mut i = from;
-    while 0 < i {
-        let q = way[i] as u64 / PLACE_WORDS * PLACE_WORDS;
-        i -= 1;
+    for i in (0..from).rev() {
+        let q = way[i + 1] as u64 / PLACE_WORDS * PLACE_WORDS;
         let s = way[i] as usize;
         let was = node::load(mem, s).height;
         turning::balance(mem, s, q);

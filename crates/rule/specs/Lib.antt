@@ -7,6 +7,7 @@ pub mod Voids
 pub mod Choice
 pub mod Kept
 pub mod Order
+pub mod Refusal
 pub mod Answer
 pub mod Codes
 pub mod Rule

@@ -3,40 +3,48 @@ ghost use Rattle.std.specs.Prelude.{◌≡◌, ◌≤◌, length};
 ghost use Rattle.rule.specs.Moments.{last_moment};
 ghost use Rattle.rule.specs.Settings.{Settings, longest, most_lines};
 ghost use Rattle.rule.specs.Codes.{booking_code, sweep_code};
+ghost use Rattle.rule.specs.Refusal.{code_of};
 
 use crate::fit;
 use crate::moments::LAST_MOMENT;
+use crate::refusal::Refusal;
 
-// The code of a booking on a link with so many lines, before any void is looked at; 0: none of 3 to 6.
-pub fn booking_code(floor: u64, lines: u64, arrival: u64, burst: u64, permitted: u64) -> u64
+// Whether a booking on a link with so many lines is refused by 3 to 6, before any void is looked at.
+pub fn check_booking(
+    floor: u64,
+    lines: u64,
+    arrival: u64,
+    burst: u64,
+    permitted: u64,
+) -> Result<(), Refusal>
     requires { (arrival ≤ last_moment) × (burst ≤ longest) × (lines ≤ most_lines) }
-    ensures { (g : Settings) → length g.delays ≡ lines → result ≡ booking_code g floor arrival burst permitted }
+    ensures { (g : Settings) → length g.delays ≡ lines → code_of result ≡ booking_code g floor arrival burst permitted }
 {
     if burst == 0 {
-        return 3;
+        return Err(Refusal::NoLength);
     }
     if arrival < floor {
-        return 4;
+        return Err(Refusal::BeforeFloor);
     }
     if 1 <= permitted >> lines {
-        return 5;
+        return Err(Refusal::LineLacked);
     }
     if LAST_MOMENT < arrival + fit::hold(burst) {
-        return 6;
+        return Err(Refusal::PastLastMoment);
     }
-    0
+    Ok(())
 }
 
-// The code of a sweep; 0: it is accepted.
-pub fn sweep_code(floor: u64, leap: u64, moment: u64) -> u64
+// Whether a sweep is refused by 9 or 10.
+pub fn check_sweep(floor: u64, leap: u64, moment: u64) -> Result<(), Refusal>
     requires { (floor ≤ last_moment) × (leap ≤ longest) }
-    ensures { (g : Settings) → g.leap ≡ leap → result ≡ sweep_code g floor moment }
+    ensures { (g : Settings) → g.leap ≡ leap → code_of result ≡ sweep_code g floor moment }
 {
     if moment < floor {
-        return 9;
+        return Err(Refusal::SweepBeforeFloor);
     }
     if floor + leap < moment {
-        return 10;
+        return Err(Refusal::PastLeap);
     }
-    0
+    Ok(())
 }

@@ -15,5 +15,5 @@ pub fn hold(length: u64) -> u64
 pub fn fits(s: u64, e: u64, r: u64, f: u64) -> bool
     ensures { result ≡ fits s e r f }
 {
-    if s <= r { f <= e } else { false }
+    s <= r && f <= e
 }

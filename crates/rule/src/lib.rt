@@ -1,4 +1,4 @@
-// The rule: document 01's definitions (specs/), the answer's numbers, the moments, and the code of the fit and of the codes,
+// The rule: document 01's definitions (specs/), the answer's numbers, the refusals, the moments, and the code of the fit and of the codes,
 // proved equal to them. The other tests on plain numbers are in crate ruling. No tree and no lent memory here.
 #![tactic(auto)]
 
@@ -6,3 +6,4 @@ pub mod answer;
 pub mod codes;
 pub mod fit;
 pub mod moments;
+pub mod refusal;

@@ -4,6 +4,7 @@ ghost use Rattle.rule.specs.Moments.{last_moment, open_end};
 ghost use Rattle.rule.specs.Kept.{least, stays, kept};
 
 // The least end of a void that stays at the floor: one that ends there has ended.
+#[tactic(auto, unfolding(rule::specs::Kept::least))]
 pub fn least(floor: u64) -> u64
     requires { floor ≤ last_moment }
     ensures { (result ≡ least floor) × (result ≤ open_end) }
@@ -24,5 +25,5 @@ pub fn kept(floor: u64, s: u64, e: u64) -> bool
     requires { floor ≤ last_moment }
     ensures { result ≡ kept floor s e }
 {
-    if s < e { stays(floor, e) } else { false }
+    s < e && stays(floor, e)
 }

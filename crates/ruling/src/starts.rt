@@ -11,9 +11,5 @@ pub fn tried(r: u64, h: u64, permitted: u64, i: u64, d: u64) -> bool
     requires { (r ≤ last_moment) × (h ≤ longest) × (d ≤ longest) × (i < most_lines) }
     ensures { result ≡ tried r h permitted i d }
 {
-    if (permitted >> i) % 2 == 1 {
-        r + d + h <= LAST_MOMENT
-    } else {
-        false
-    }
+    (permitted >> i) % 2 == 1 && r + d + h <= LAST_MOMENT
 }

@@ -1,6 +1,7 @@
 -- The run so far: what the loop over the records keeps, where it begins, what a record adds, and what the run is where it stops.
 use mathlib.Core.Path.{◌≡◌, refl, sym, ap, ap₂, ◌∙◌, subst}
 use mathlib.Core.Logic.{inl}
+use Rattle.std.specs.Prelude.{Result, Ok, Err}
 use mathlib.Core.List.{List, [], ◌∷◌, ◌++◌, append_assoc, append-nil}
 use Prim.Native.Nat.{ℕ, zero, suc, ◌+◌, ◌*◌, ◌-◌, ◌≤◌, ◌<◌}
 use native.Mathlib.Omega.{arith}
@@ -10,8 +11,9 @@ use lib.Seq.{take_all, sets, sets-eq, length-sets, take_at, drop_at, drop-drop, 
 use Rattle.tally.specs.declared.Tally.{Tally}
 use Rattle.rule.specs.Order.{Order}
 use Rattle.rule.specs.Answer.{seven, numbers_of}
-use Rattle.tally.specs.Counts.{row_of, raised}
+use Rattle.tally.specs.Counts.{row_of, index_of, raised}
 use Rattle.order.specs.Records.{Reading, unread, opening, order, reading}
+use Rattle.order.specs.declared.Unread.{Unread}
 use Rattle.order.specs.Kinds.{Kind, kind}
 use Rattle.order.proofs.Alone.{inside}
 use Rattle.state.specs.State.{State}
@@ -172,29 +174,20 @@ module _ {m₀ bytes out₀ : List ℕ} {t₀ : Tally} {m out : List ℕ} {t : T
       (fueled (λ n. run_from n p.state t (length out - written) place (drop place bytes) ≡ ended p.state t 12 place) h
       (λ n. full n p.state t (length out - written) place (drop place bytes) (omega (arith, left)) r))
 
-  module _ (h : place < length bytes) (r : 7 ≤ length out - written) (m' : List ℕ) (x : Single) (f : Steps (drop place bytes) x m m') where
+  pub run_stuck : place < length bytes → 7 ≤ length out - written → (m' : List ℕ) (e : Unread) → Steps (drop place bytes) (Err e) m m'
+      → Runs t₀ bytes (record { tally = t; ran = record { code = 11; place = place; answered = count } }) m₀ m' out₀ out
+  run_stuck h r m' e f =
+      let i = f p.state p.sound p.after.holds t in
+      ends m' 11 (after_then refl p.after i.after)
+      (fueled (λ n. run_from n p.state t (length out - written) place (drop place bytes) ≡ ended p.state t 11 place) h
+      (λ n. stuck n p.state t (length out - written) place (drop place bytes) (omega (arith, left)) r (ap (λ y. y.used) i.unused)))
+
+  module _ (h : place < length bytes) (r : 7 ≤ length out - written) (m' : List ℕ) (x : Single) (f : Steps (drop place bytes) (Ok x) m m') where
     step : StepsOn (step_on p.state t (reading (drop place bytes))) t x m m'
     step = f p.state p.sound p.after.holds t
 
-    pub run_stuck : x.used ≡ 0 → Runs t₀ bytes (record { tally = t; ran = record { code = 11; place = place; answered = count } }) m₀ m' out₀ out
-    run_stuck z = go (reading (drop place bytes)) refl
-      where
-        at : (step_on p.state t (reading (drop place bytes))).used ≡ 0
-        at = sym step.used ∙ z
-
-        same : After m₀ m' p.state → Runs t₀ bytes (record { tally = t; ran = record { code = 11; place = place; answered = count } }) m₀ m' out₀ out
-        same a =
-            ends m' 11 a
-            (fueled (λ n. run_from n p.state t (length out - written) place (drop place bytes) ≡ ended p.state t 11 place) h
-            (λ n. stuck n p.state t (length out - written) place (drop place bytes) (omega (arith, left)) r at))
-
-        go : (y : Reading) → reading (drop place bytes) ≡ y → Runs t₀ bytes (record { tally = t; ran = record { code = 11; place = place; answered = count } }) m₀ m' out₀ out
-        go (unread k) e = same (after_then refl p.after (let s : StepsOn (step_on p.state t (unread k)) t x m m' = rw e at step in s.after))
-        go (opening u o) e = same (after_then refl p.after (let s : StepsOn (step_on p.state t (opening u o)) t x m m' = rw e at step in s.after))
-        go (order u o) e =
-            let s : StepsOn (step_on p.state t (order u o)) t x m m' = rw e at step in
-            let k : 8 ≤ u = rw e at (kind (drop place bytes)) in
-            absurd (omega (arith, s.used))
+    pub some_used : 1 ≤ x.used
+    some_used = step.some
 
     -- a record more
     seven_long : (y : Rattle.rule.specs.Answer.Reply) (n : ℕ) → length (seven y n) ≡ 7
@@ -241,14 +234,14 @@ module _ {m₀ bytes out₀ : List ℕ} {t₀ : Tally} {m out : List ℕ} {t : T
               p.run ∙ (ap (before p.said) (further u o vs ev e) ∙ (rw (n, drop-drop u place bytes) (shifted p.said vs _)));
         }
 
-    pub turn : (x.used ≡ 0 → ⊥) → Along m₀ bytes out₀ t₀ m' (sets out written (numbers_of x.answer)) (raised t x.row) (place + x.used) (count + 1) (written + 7)
-    turn nz = go (reading (drop place bytes)) refl
+    pub turn : Along m₀ bytes out₀ t₀ m' (sets out written (numbers_of x.answer)) (raised t (index_of x.row)) (place + x.used) (count + 1) (written + 7)
+    turn = go (reading (drop place bytes)) refl
       where
         Next : Type 0
-        Next = Along m₀ bytes out₀ t₀ m' (sets out written (numbers_of x.answer)) (raised t x.row) (place + x.used) (count + 1) (written + 7)
+        Next = Along m₀ bytes out₀ t₀ m' (sets out written (numbers_of x.answer)) (raised t (index_of x.row)) (place + x.used) (count + 1) (written + 7)
 
         idle : (step_on p.state t (reading (drop place bytes))).used ≡ 0 → Next
-        idle e = absurd (nz (step.used ∙ e))
+        idle e = absurd (omega (arith, step.some, step.used, e))
 
         turned : (u : ℕ) (o : Order) → StepsOn (step_on p.state t (order u o)) t x m m' → reading (drop place bytes) ≡ order u o → Next
         turned u o s e =
@@ -266,5 +259,14 @@ module _ {m₀ bytes out₀ : List ℕ} {t₀ : Tally} {m out : List ℕ} {t : T
             turned u o s e
 
 -- a step on the part of the records from the place on
-pub from_part : (bytes : List ℕ) (place : ℕ) (x : Single) (m m' : List ℕ) → Steps (take (length bytes - place) (drop place bytes)) x m m' → Steps (drop place bytes) x m m'
+pub from_part : (bytes : List ℕ) (place : ℕ) (x : Result Single Unread) (m m' : List ℕ) → Steps (take (length bytes - place) (drop place bytes)) x m m' → Steps (drop place bytes) x m m'
 from_part bytes place x m m' f = let e : take (length bytes - place) (drop place bytes) ≡ drop place bytes = take_all (length bytes - place) (drop place bytes) (omega (arith, length-drop place bytes)) in rw e at f
+
+-- a record more, and none
+module _ {m₀ bytes out₀ : List ℕ} {t₀ : Tally} {m out : List ℕ} {t : Tally} {place count written : ℕ} (p : Along m₀ bytes out₀ t₀ m out t place count written) (h : place < length bytes) (r : 7 ≤ length out - written)
+    (m' : List ℕ) (y : Result Single Unread) (f : Steps (take (length bytes - place) (drop place bytes)) y m m') where
+  pub more : (x : Single) → y ≡ Ok x → (1 ≤ x.used) × Along m₀ bytes out₀ t₀ m' (sets out written (numbers_of x.answer)) (raised t (index_of x.row)) (place + x.used) (count + 1) (written + 7)
+  more x e = let g = from_part bytes place (Ok x) m m' (rw e at f) in (some_used p h r m' x g, turn p h r m' x g)
+
+  pub no_more : (e : Unread) → y ≡ Err e → Runs t₀ bytes (record { tally = t; ran = record { code = 11; place = place; answered = count } }) m₀ m' out₀ out
+  no_more e q = run_stuck p h r m' e (from_part bytes place (Err e) m m' (rw q at f))

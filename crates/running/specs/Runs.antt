@@ -1,7 +1,9 @@
 -- What a run promises, for every input: of a memory that holds a whole link, and of one that does not; and `Gives`, by which
 -- every call says so.
-use Rattle.std.specs.Prelude.{◌≡◌, ◌⊎◌, List, ◌++◌, ℕ, ◌*◌, length, drop}
+use Rattle.std.specs.Prelude.{◌≡◌, ◌⊎◌, Result, Ok, Err, List, ◌++◌, ℕ, ◌*◌, length, drop}
 use Rattle.tally.specs.declared.Tally.{Tally}
+use Rattle.rule.specs.declared.refusal.Ending.{Ending}
+use Rattle.rule.specs.Refusal.{ending_of}
 use Rattle.state.specs.State.{State}
 use Rattle.state.specs.Sound.{Sound}
 use Rattle.memory.specs.Holds.{Holds, Whole, After}
@@ -11,6 +13,11 @@ use Rattle.running.specs.Run.{Ran, run_on, flat}
 -- what a call gives, by what the memory holds: f of the whole link s, or b where it holds none (code 2)
 abbrev pub Gives : List ℕ → (State → Type 0) → Type 0 → Type 0
 Gives m f b = ((s : State) × Sound s × Holds m s × f s) ⊎ ((Whole m → ⊥) × b)
+
+-- "the code that ended it (0 at its end)"
+abbrev pub end_of : Result Unit Ending → ℕ
+end_of (Ok _) = 0
+end_of (Err why) = ending_of why
 
 -- out, out': the answer slice before and after
 pub record RunsTo (y : Ran) (x : RunDone) (m m' out out' : List ℕ) : Type 0 where

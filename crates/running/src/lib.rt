@@ -3,8 +3,9 @@
 #![tactic(auto)]
 
 ghost use Rattle.std.specs.Prelude.{◌≡◌};
-ghost use Rattle.running.specs.Runs.{Runs};
+ghost use Rattle.running.specs.Runs.{Runs, end_of};
 
+use rule::refusal::Ending;
 use tally::Tally;
 
 // What a run gives: the code that ended it, the place of the first byte not acted on, the records answered.
@@ -23,10 +24,14 @@ pub struct RunDone {
     pub ran: Ran,
 }
 
-// What a run gives where it ends.
-fn ended(tally: Tally, code: u64, place: usize, answered: usize) -> RunDone
-    ensures { result ≡ record { tally = tally; ran = record { code = code; place = place; answered = answered } } }
+// What a run gives where it ends, and what ended it.
+fn ended(tally: Tally, end: Result<(), Ending>, place: usize, answered: usize) -> RunDone
+    ensures { result ≡ record { tally = tally; ran = record { code = end_of end; place = place; answered = answered } } }
 {
+    let code = match end {
+        Ok(()) => 0,
+        Err(why) => why.into(),
+    };
     RunDone {
         tally,
         ran: Ran {
@@ -42,7 +47,7 @@ pub fn run(mem: &mut [u8], tally: Tally, records: &[u8], answers: &mut [u64]) ->
     ensures { Runs tally records.now result mem.old mem.new answers.old answers.new }
 {
     if !whole::whole(mem) {
-        return ended(tally, 2, 0, 0);
+        return ended(tally, Err(Ending::NotWhole), 0, 0);
     }
     let mut t = tally;
     let mut place = 0;
@@ -50,19 +55,16 @@ pub fn run(mem: &mut [u8], tally: Tally, records: &[u8], answers: &mut [u64]) ->
     let mut written = 0;
     while place < records.len() {
         if answers.len() - written < 7 {
-            return ended(t, 12, place, answered);
+            return ended(t, Err(Ending::NoRoomForAnswer), place, answered);
         }
-        let x = stepping::step(mem, &records[place..]);
-        let used = x.used;
-        if used == 0 {
-            return ended(t, 11, place, answered);
-        }
-        let answer = x.answer;
-        seven::write(answers, written, answer);
+        let Ok(x) = stepping::step(mem, &records[place..]) else {
+            return ended(t, Err(Ending::Unread), place, answered);
+        };
+        seven::write(answers, written, x.answer);
         t = tally::raise(t, x.row);
-        place += used;
+        place += x.used;
         answered += 1;
         written += 7;
     }
-    ended(t, 0, place, answered)
+    ended(t, Ok(()), place, answered)
 }

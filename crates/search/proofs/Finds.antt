@@ -1,6 +1,7 @@
 -- Walk and descent joined: what the search answers is what 01 publishes.
-use mathlib.Core.Path.{◌≡◌, refl, sym, ap, ◌∙◌}
-use mathlib.Core.Bool.{Bool, true, false, false≢true}
+use mathlib.Core.Path.{◌≡◌, refl, ap, ◌∙◌}
+use mathlib.Core.Bool.{Bool, true, false}
+use Rattle.std.specs.Prelude.{Some}
 use mathlib.Core.List.{List}
 use Prim.Native.Nat.{ℕ, ◌+◌, ◌-◌, ◌≤◌, ◌<◌}
 use native.Mathlib.Omega.{arith}
@@ -31,10 +32,6 @@ pub mark_of : (m ws : List ℕ) (j : ℕ) (d : Deepest) → (j ≡ 0 → ⊥) �
 mark_of m ws j unmarked h g = absurd (h g)
 mark_of m ws j (marked x) h g = record { tree = x; is = refl; beside = g }
 
-mark_none : (m ws : List ℕ) (j : ℕ) (d : Deepest) → j ≡ 0 → Marks m ws j d → d ≡ unmarked
-mark_none m ws j unmarked h g = refl
-mark_none m ws j (marked x) h g = absurd (omega (arith, g.deep))
-
 module _ (m : List ℕ) (root r f : ℕ) (ws : List ℕ) (w : Way) (k : (t : Tree) → Stands m root t → Walked m r f t ws w) where
   pub walk_few : (t : Tree) → Stands m root t → height t < longest_way → w.visits ≤ 129
   walk_few t s h = omega (arith, (k t s).counts, search_visits r f t)
@@ -47,19 +44,13 @@ module _ (m : List ℕ) (root r f : ℕ) (ws : List ℕ) (w : Way) (k : (t : Tre
     plain : length (path r t) + length (passed r t) + 0 ≡ w.visits
     plain = omega (arith, (k t s).counts)
 
-    pub answer_leaf : b ≡ true → (i : ℕ) (x : Found) → x ≡ record { found = true; key = n.lo; end = n.top; visits = w.visits; noted = i; deep = w.deep; after = w.after }
+    pub answer_leaf : b ≡ true → (i : ℕ) (x : Found) → x ≡ record { leaf = Some (record { key = n.lo; end = n.top; noted = i }); visits = w.visits; deep = w.deep; after = w.after }
         → x ≡ found_of x (published r f t)
     answer_leaf h i x ex = let q = rw h at fitting_is in rw (ex, q, plain)
 
-    pub answer_none : b ≡ false → w.mark ≡ 0 → (x : Found) → x ≡ record { found = false; key = 0; end = 0; visits = w.visits; noted = 0; deep = w.deep; after = w.after }
-        → x ≡ found_of x (published r f t)
-    answer_none h g x ex =
-        let q = rw h at fitting_is in
-        rw (ex, q, mark_none m ws w.mark (deepest f (passed r t)) g (k t s).marks, plain)
-
     pub answer_deep : b ≡ false → (w.mark ≡ 0 → ⊥)
         → (d : Descent) → ((x : Tree) → Stands m (get_or ws w.mark 0 - 4) x → Descended m f x d) → (y : Node) → y ≡ node_at m d.seat
-        → (i : ℕ) (x : Found) → x ≡ record { found = true; key = y.lo; end = y.top; visits = w.visits + d.visits; noted = i; deep = w.deep; after = w.after }
+        → (i : ℕ) (x : Found) → x ≡ record { leaf = Some (record { key = y.lo; end = y.top; noted = i }); visits = w.visits + d.visits; deep = w.deep; after = w.after }
         → x ≡ found_of x (published r f t)
     answer_deep h g d j y ey i x ex =
         let q = rw h at fitting_is in
@@ -71,12 +62,8 @@ module _ (m : List ℕ) (root r f : ℕ) (ws : List ℕ) (w : Way) (k : (t : Tre
 
 -- the notes of an answer are the walk's
 pub notes_found : (m : List ℕ) (root : ℕ) (ws : List ℕ) (l e v i d a : ℕ) → Reaches m root i ws l e
-    → (x : Found) → x ≡ record { found = true; key = l; end = e; visits = v; noted = i; deep = d; after = a } → Notes m root ws x
-notes_found m root ws l e v i d a g x ex = rw ex (λ h. g)
-
-pub notes_none : (m : List ℕ) (root : ℕ) (ws : List ℕ) (v d a : ℕ)
-    → (x : Found) → x ≡ record { found = false; key = 0; end = 0; visits = v; noted = 0; deep = d; after = a } → Notes m root ws x
-notes_none m root ws v d a x ex h = absurd (false≢true (sym (ap (λ (y : Found). y.found) ex) ∙ h))
+    → (x : Found) → x ≡ record { leaf = Some (record { key = l; end = e; noted = i }); visits = v; deep = d; after = a } → Notes m root ws x
+notes_found m root ws l e v i d a g x ex = rw ex g
 
 pub still_ahead : (m : List ℕ) (root b : ℕ) (ws : List ℕ) (x y : Found) → x ≡ y → Ahead m root b y.deep y.after ws → Ahead m root b x.deep x.after ws
 still_ahead m root b ws x y e g = rw e g

@@ -68,9 +68,6 @@ record Gone (m : List ℕ) (x a : ℕ) : Type 0 where
   ordered : Ord from a tree
 
 module _ (m : List ℕ) (b : ℕ) (ws : List ℕ) (t : Trail) (D : Followable m ws t) where
-  pub follows_none : t.place ≡ 0 → Follows m b t t ws ws
-  follows_none z = record { able = D; lower = λ h. absurd (h z); trails = λ root T. T }
-
   -- v is the node on the right, x the seat gone to, and a the next `after`
   module _ (h : t.place ≡ 0 → ⊥) (p : ℕ) (ep : p ≡ near_of false t.place) (v : Node) (ev : v ≡ node_at m p)
       (x : ℕ) (ex : x ≡ near_of (not (leb v.lo b)) t.place) (a : ℕ) (ea : a ≡ pick (leb v.lo b) t.after v.lo) where

@@ -120,9 +120,6 @@ prolonged_down m root i ws ws' n x D P = record { long = P.long; first = P.stays
     ]
 
 module _ (m : List ℕ) (root r f : ℕ) (ws : List ℕ) (w : Way) (k : (t : Tree) → Stands m root t → Walked m r f t ws w) (T : Trodden m root ws w) (t : Tree) (s : Stands m root t) where
-  pub leaf_low : (w.depth < length ws) × (w.depth < longest_way)
-  leaf_low = omega (arith, T.short, T.long)
-
   pub leaf_within : Within m (get_or ws w.depth 0)
   leaf_within = within (k t s).stands
 
@@ -144,14 +141,11 @@ module _ (m : List ℕ) (root r f : ℕ) (ws : List ℕ) (w : Way) (k : (t : Tre
     M : Marked m ws w.mark (deepest f (passed r t))
     M = mark_of m ws w.mark (deepest f (passed r t)) h (k t s).marks
 
-    pub mark_right : get_or ws w.mark 0 % 8 ≡ 4
-    mark_right = M.beside.right
-
     -- the marked node's seat
     abbrev seat : ℕ
     seat = get_or ws w.mark 0 - 4
 
-    pub mark_within : Within m seat
+    mark_within : Within m seat
     mark_within = within M.beside.stands
 
     -- it is noted in the place of its sibling
@@ -179,7 +173,7 @@ module _ (m : List ℕ) (root r f : ℕ) (ws : List ℕ) (w : Way) (k : (t : Tre
       pub reaches_mark : (y : Node) → y ≡ node_at m d.seat → Reaches m root n ws' y.lo y.top
       reaches_mark y e =
           record {
-            down = prolonged_down m root w.mark (set ws w.mark seat) ws' n d.seat (beside_down m root w.depth ws seat w.mark T.down M.beside.deep T.turn (omega (arith, mark_right)) mark_within.3) P;
+            down = prolonged_down m root w.mark (set ws w.mark seat) ws' n d.seat (beside_down m root w.depth ws seat w.mark T.down M.beside.deep T.turn (omega (arith, M.beside.right)) mark_within.3) P;
             sub = leaf y.lo y.top;
             stands = rw (P.last, e) (g M.tree M.beside.stands).stands;
             inside = (refl, refl);

@@ -1,8 +1,7 @@
 -- What the search's contracts say, in the words of the tree's definitions (crates/shape/specs/Visits.antt).
 -- Each speaks of whatever tree stands at the seat; none says how the code goes.
-use Rattle.std.specs.Prelude.{◌≡◌, refl, true, false, List, ℕ, suc, ◌+◌, ◌-◌, ◌%◌, ◌≤◌, ◌<◌, length, get_or}
+use Rattle.std.specs.Prelude.{◌≡◌, refl, Option, Some, None, IfSome, List, ℕ, suc, ◌+◌, ◌-◌, ◌%◌, ◌≤◌, ◌<◌, length, get_or}
 use Rattle.std.proofs.Common.{sym, ap, ◌∙◌}
-use Rattle.numbers.specs.Case.{pick}
 use Rattle.shape.specs.Tree.{Tree, leaf, height}
 use Rattle.shape.specs.Visits.{Out, none, some, Result, path, passed, reached, Deepest, unmarked, marked, deepest, descended, bottom}
 use Rattle.node.specs.Layout.{node_at}
@@ -11,6 +10,7 @@ use Rattle.node.specs.Paths.{longest_way, Child, Down, Reaches}
 use Rattle.search.specs.declared.Descent.{Descent}
 use Rattle.search.specs.declared.Lowered.{Lowered}
 use Rattle.search.specs.declared.Way.{Way}
+use Rattle.search.specs.declared.Leaf.{Leaf}
 use Rattle.search.specs.declared.Found.{Found}
 
 -- some tree stands at s, and its ways down fit the list
@@ -83,21 +83,30 @@ pub record Trodden (m : List ℕ) (root : ℕ) (ws : List ℕ) (w : Way) : Type 
   pub turn : w.mark ≤ w.depth
   pub under : (w.mark ≡ 0 → ⊥) → Under m ws w.mark w.below
 
+-- how far down the way to what is found is noted (0 where nothing is)
+abbrev pub noted_of : Option Leaf → ℕ
+noted_of (Some l) = l.noted
+noted_of None = 0
+
 -- the answer of a search as the code gives it, with the ways noted as in y
 abbrev pub found_at : (y : Found) → (visits : ℕ) → Out → Found
-found_at y n none = record { found = false; key = 0; end = 0; visits = n; noted = y.noted; deep = y.deep; after = y.after }
-found_at y n (some k e) = record { found = true; key = k; end = e; visits = n; noted = y.noted; deep = y.deep; after = y.after }
+found_at y n none = record { leaf = None; visits = n; deep = y.deep; after = y.after }
+found_at y n (some k e) = record { leaf = Some (record { key = k; end = e; noted = noted_of y.leaf }); visits = n; deep = y.deep; after = y.after }
 
 abbrev pub found_of : (y : Found) → Result → Found
 found_of y z = found_at y z.visits z.out
 
 -- what is found is below the seat noted last
 abbrev pub Notes : List ℕ → (root : ℕ) → List ℕ → Found → Type 0
-Notes m root ws x = x.found ≡ true → Reaches m root x.noted ws x.key x.end
+Notes m root ws x = IfSome x.leaf (λ l. Reaches m root l.noted ws l.key l.end)
 
 -- and back
+abbrev pub out_of : Option Leaf → Out
+out_of (Some l) = some l.key l.end
+out_of None = none
+
 abbrev pub result_of : Found → Result
-result_of x = record { out = pick x.found (some x.key x.end) none; visits = x.visits }
+result_of x = record { out = out_of x.leaf; visits = x.visits }
 
 -- ---- what an answer tells of the search
 result_at : (y : Found) (n : ℕ) (o : Out) → result_of (found_at y n o) ≡ record { out = o; visits = n }
@@ -111,8 +120,8 @@ module _ (x y : Found) (z : Result) (q : x ≡ found_of y z) where
   pub found_visits : x.visits ≡ z.visits
   found_visits = ap (λ (a : Result). a.visits) found_result
 
-  pub found_some : x.found ≡ true → z.out ≡ some x.key x.end
-  found_some h = rw h at (sym (ap (λ (a : Result). a.out) found_result))
+  pub found_some : (l : Leaf) → x.leaf ≡ Some l → z.out ≡ some l.key l.end
+  found_some l h = rw h at (sym (ap (λ (a : Result). a.out) found_result))
 
-  pub found_none : x.found ≡ false → z.out ≡ none
+  pub found_none : x.leaf ≡ None → z.out ≡ none
   found_none h = rw h at (sym (ap (λ (a : Result). a.out) found_result))

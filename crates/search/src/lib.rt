@@ -2,7 +2,7 @@
 // deepest marked node, both counting their visits as they go.
 #![tactic(auto)]
 
-ghost use Rattle.std.specs.Prelude.{◌≡◌, true, false, ◌*◌, ◌≤◌, length};
+ghost use Rattle.std.specs.Prelude.{◌≡◌, ◌*◌, ◌≤◌, length};
 ghost use Rattle.numbers.specs.Case.{pick};
 ghost use Rattle.rule.specs.Key.{per_tick};
 ghost use Rattle.rule.specs.Moments.{last_moment};
@@ -40,16 +40,20 @@ struct Way {
     after: u64,
 }
 
-// Where the search ends: at a leaf, or at none (key and end are 0 then), and its visits; and how far down the way to that
-// leaf is noted. How far down the way of the keys from f on is noted, and the first key that it is not the way of.
-#[repr(C)]
+// The leaf where the search ends: its key and end, and how far down the way to it is noted.
 #[derive(Clone, Copy)]
-pub struct Found {
-    pub found: bool,
+pub struct Leaf {
     pub key: u64,
     pub end: u64,
-    pub visits: u64,
     pub noted: usize,
+}
+
+// Where the search ends: at a leaf, or at none, and its visits. How far down the way of the keys from f on is noted, and the
+// first key that it is not the way of.
+#[derive(Clone, Copy)]
+pub struct Found {
+    pub leaf: Option<Leaf>,
+    pub visits: u64,
     pub deep: usize,
     pub after: u64,
 }
@@ -228,30 +232,18 @@ fn walk(mem: &[u8], root: usize, r: u64, f: u64, way: &mut [u16], far: &mut [u16
     }
 }
 
-// The answer at the leaf with the node n, or at none.
+// The answer at the leaf with the node n.
 fn found_at(n: node::Node, visits: u64, noted: usize, w: Way) -> Found
-    ensures { result ≡ record { found = true; key = n.lo; end = n.top; visits = visits; noted = noted; deep = w.deep; after = w.after } }
+    ensures { result ≡ record { leaf = Some (record { key = n.lo; end = n.top; noted = noted }); visits = visits; deep = w.deep; after = w.after } }
 {
-    Found {
-        found: true,
+    let leaf = Leaf {
         key: n.lo,
         end: n.top,
-        visits,
         noted,
-        deep: w.deep,
-        after: w.after,
-    }
-}
-
-fn found_none(w: Way) -> Found
-    ensures { result ≡ record { found = false; key = 0; end = 0; visits = w.visits; noted = 0; deep = w.deep; after = w.after } }
-{
+    };
     Found {
-        found: false,
-        key: 0,
-        end: 0,
-        visits: w.visits,
-        noted: 0,
+        leaf: Some(leaf),
+        visits,
         deep: w.deep,
         after: w.after,
     }
@@ -279,5 +271,10 @@ pub fn search(mem: &[u8], root: usize, r: u64, f: u64, way: &mut [u16], far: &mu
         let b = node::load(mem, d.seat);
         return found_at(b, w.visits + d.visits, noted, w);
     }
-    found_none(w)
+    Found {
+        leaf: None,
+        visits: w.visits,
+        deep: w.deep,
+        after: w.after,
+    }
 }

@@ -1,6 +1,6 @@
--- The header's words: the delays as a list, the words that are 0, and the record of both.
-use mathlib.Core.Path.{◌≡◌, refl, sym, ap, ◌∙◌}
-use mathlib.Core.Bool.{Bool, true, false, false≢true}
+-- The header's delays as a list, and whether they rise.
+use mathlib.Core.Path.{◌≡◌, refl, ap, ◌∙◌}
+use mathlib.Core.Bool.{true, false}
 use mathlib.Core.List.{List, [], ◌∷◌}
 use Prim.Native.Nat.{ℕ, zero, suc, ◌+◌, ◌-◌, ◌≤◌, ◌<◌}
 use native.Mathlib.Omega.{arith}
@@ -8,10 +8,7 @@ use lib.ListN.{length, get_or}
 use Rattle.numbers.specs.Words.{word}
 use Rattle.rule.specs.Settings.{longest, between, rising}
 use Rattle.rule.specs.SettingsLaws.{rising_next, rising_not}
-use Rattle.memory.specs.Header.{need}
-use Rattle.settled.specs.Says.{Says}
-use Rattle.settled.specs.Settled.{Bounded, listed, Zeros, Settled}
-use Rattle.settled.proofs.Saying.{says_map}
+use Rattle.settled.specs.Settled.{listed}
 
 -- ---- words as a list
 pub length_listed : (n : ℕ) (m : List ℕ) (a : ℕ) → length (listed n m a) ≡ n
@@ -35,11 +32,6 @@ listed_is (x ∷ xs) m a h =
     let v : listed (length xs) m (a + 1) ≡ xs = listed_is xs m (a + 1) (λ i l. let g : a + 1 + i ≡ a + suc i = omega arith in rw g (h (suc i) (omega arith))) in
     rw (u, v)
 
-pub get_past : (xs : List ℕ) (i : ℕ) → length xs ≤ i → get_or xs i 0 ≡ 0
-get_past [] i h = refl
-get_past (x ∷ xs) zero h = absurd (omega arith)
-get_past (x ∷ xs) (suc i) h = get_past xs i (omega arith)
-
 -- ---- delays that rise
 -- the words of the lines from the one after line i on
 listed_cons : (m : List ℕ) (n i w : ℕ) → i < n → w ≡ word m (8 + i) → listed (n - i) m (8 + i) ≡ w ∷ listed (n - (i + 1)) m (8 + (i + 1))
@@ -59,32 +51,3 @@ module _ (m : List ℕ) (n i d w : ℕ) (h : i < n) (e : w ≡ word m (8 + i)) w
 pub rise_end : (m : List ℕ) (n i d : ℕ) → n ≤ i → rising d (listed (n - i) m (8 + i)) ≡ true
 unfolding listed
 rise_end m n i d h = let a : n - i ≡ 0 = omega arith in rw a
-
-pub rise_start : (m : List ℕ) (n : ℕ) → rising 0 (listed n m 8) ≡ rising 0 (listed (n - 0) m (8 + 0))
-rise_start m n = let a : n - 0 ≡ n = omega arith in rw a
-
--- ---- the header's record
-module _ (m : List ℕ) (r c l h f k : ℕ) (e0 : r ≡ word m 0) (e1 : c ≡ word m 1) (e2 : l ≡ word m 2) (e3 : h ≡ word m 3) (e4 : f ≡ word m 4) (e6 : k ≡ word m 6) where
-  pub unbounded : (Bounded r c l h f k → ⊥) → Settled m → ⊥
-  unbounded g s = g (rw (e0, e1, e2, e3, e4, e6) s.bounded)
-
-  pub short : (n : ℕ) → n ≡ need r → length m < n → Settled m → ⊥
-  short n en g s = omega (arith, s.long)
-
-  pub used : (w : ℕ) → w ≡ word m 5 → (w ≡ 0 → ⊥) → Settled m → ⊥
-  used w e5 g s = g (e5 ∙ s.unused)
-
-  pub falling : (b : Bool) → b ≡ rising 0 (listed l m 8) → b ≡ false → Settled m → ⊥
-  falling b g z s = let u : rising 0 (listed l m 8) ≡ true = rw e2 s.delays in false≢true (sym z ∙ (g ∙ u))
-
-  pub settles : (b q : Bool) → Bounded r c l h f k → (n : ℕ) → n ≡ need r → n ≤ length m → (w : ℕ) → w ≡ word m 5 → w ≡ 0 → b ≡ rising 0 (listed l m 8) → b ≡ true
-      → Says (Zeros m (8 + l)) q → Says (Settled m) q
-  settles b q u n en v w e5 o5 g z = says_map (Zeros m (8 + l)) (Settled m) q
-      (λ o. record {
-        bounded = rw (← e0, ← e1, ← e2, ← e3, ← e4, ← e6) u;
-        long = omega arith;
-        unused = sym e5 ∙ o5;
-        delays = rw (← e2) (sym g ∙ z);
-        zeros = rw (← e2) o;
-      })
-      (λ s. rw e2 s.zeros)

@@ -13,13 +13,8 @@ pub fn write(answers: &mut [u64], at: usize, a: Answer)
     requires { at + 7 ≤ length answers.old }
     ensures { answers.new ≡ sets answers.old at (numbers_of a) }
 {
-    answers[at] = a.code;
-    answers[at + 1] = a.channel;
-    answers[at + 2] = a.line;
-    answers[at + 3] = a.start;
-    answers[at + 4] = a.finish;
-    answers[at + 5] = a.count;
-    answers[at + 6] = a.dropped;
+    let numbers: [u64; 7] = a.into();
+    answers[at..at + 7].copy_from_slice(&numbers);
 }
 
 // The answer whose seven numbers these are.
@@ -27,13 +22,6 @@ pub fn read(numbers: &[u64]) -> Answer
     requires { length numbers.now ≡ 7 }
     ensures { numbers_of result ≡ numbers.now }
 {
-    Answer {
-        code: numbers[0],
-        channel: numbers[1],
-        line: numbers[2],
-        start: numbers[3],
-        finish: numbers[4],
-        count: numbers[5],
-        dropped: numbers[6],
-    }
+    let numbers: [u64; 7] = numbers.try_into().unwrap();
+    numbers.into()
 }

@@ -2,6 +2,7 @@
 use mathlib.Core.Path.{◌≡◌, refl, sym, ap, ◌∙◌}
 use mathlib.Core.Bool.{Bool, true, false}
 use mathlib.Core.List.{List}
+use Rattle.std.specs.Prelude.{Result, Ok}
 use Prim.Native.Nat.{ℕ, zero, suc, ◌+◌, ◌-◌, ◌≤◌}
 use native.Mathlib.Omega.{arith}
 use borrow.Author.Tests.{ne_eqb}
@@ -9,19 +10,21 @@ use lib.ListN.{get_or}
 use Rattle.numbers.specs.Case.{pick}
 use Rattle.tally.specs.declared.Tally.{Tally}
 use Rattle.rule.specs.declared.answer.Answer.{Answer}
+use Rattle.rule.specs.declared.answer.Refused.{Refused}
 use Rattle.rule.specs.Moments.{last_moment}
-use Rattle.rule.specs.Settings.{longest}
 use Rattle.rule.specs.Order.{Order, booking, sweep}
 use Rattle.rule.specs.Fit.{hold, free}
 use Rattle.rule.specs.Starts.{starts}
 use Rattle.rule.specs.Choice.{Choice, nothing, taken}
-use Rattle.rule.specs.Answer.{Reply, booked, swept, refused, seven, numbers_of}
+use Rattle.rule.specs.Answer.{Reply, booked, swept, refused, seven, numbers_of, answer_of}
 use Rattle.rule.specs.Codes.{booking_code, sweep_code, chosen_reply, too_many}
-use Rattle.tally.specs.Counts.{row_of, row_at, raised}
+use Rattle.tally.specs.Counts.{row_of, row_at, index_of, raised}
 use Rattle.order.specs.declared.Record.{Record}
-use Rattle.order.specs.declared.Record.TheVariants.{Opening, Booking, Sweep, Refused}
-use Rattle.order.specs.Records.{Reading, order, reading}
-use Rattle.order.specs.Read.{meant, Narrow, Reads}
+use Rattle.order.specs.declared.Record.TheVariants.{Booking, Sweep}
+use Rattle.order.specs.declared.Unread.{Unread}
+use Rattle.order.specs.Records.{order, reading}
+use Rattle.order.specs.Kinds.{kind}
+use Rattle.order.specs.Read.{meant, Reads}
 use Rattle.shape.specs.Tree.{size}
 use Rattle.state.specs.State.{State}
 use Rattle.state.specs.Act.{seek, choice, book_as, sweep_as, act}
@@ -29,11 +32,10 @@ use Rattle.state.specs.Sound.{Sound}
 use Rattle.state.specs.Range.{InRange}
 use Rattle.state.proofs.SoundLaws.{act_sound}
 use Rattle.memory.specs.Holds.{Holds, After}
-use Rattle.memory.proofs.Whole.{after_none}
 use Rattle.booking.specs.Book.{Books}
 use Rattle.sweeping.specs.Swept.{Sweeps}
 use Rattle.stepping.specs.declared.Single.{Single}
-use Rattle.stepping.specs.Step.{step_on, unused}
+use Rattle.stepping.specs.Step.{step_on}
 use Rattle.stepping.specs.Steps.{StepsOn, Steps}
 
 -- ---- the tally's row of an order's reply
@@ -73,46 +75,35 @@ sweep_row s moment = go (sweep_code s.settings s.floor moment)
     go (suc x) = refusal_row x 1
 
 -- ---- an order
-module _ (bytes : List ℕ) (a : Answer) (u k w : ℕ) (o : Order) (q : reading bytes ≡ order u o) (ek : k ≡ row_at a.code w) (m m' : List ℕ) where
-  ordered : (s : State) → Sound s → InRange o → row_at (code_of (act s o).reply) w ≡ row_of (act s o).reply → numbers_of a ≡ seven (act s o).reply (act s o).count → After m m' (act s o).after
-      → (t : Tally) → StepsOn (step_on s t (reading bytes)) t (record { answer = a; used = u; row = k }) m m'
+module _ (bytes : List ℕ) (x : Single) (w : ℕ) (o : Order) (q : reading bytes ≡ order x.used o) (ek : index_of x.row ≡ row_at x.answer.code w) (m m' : List ℕ) where
+  ordered : (s : State) → Sound s → InRange o → row_at (code_of (act s o).reply) w ≡ row_of (act s o).reply → numbers_of x.answer ≡ seven (act s o).reply (act s o).count → After m m' (act s o).after
+      → (t : Tally) → StepsOn (step_on s t (reading bytes)) t x m m'
   ordered s so ir e n f t =
-      let c : a.code ≡ code_of (act s o).reply = ap (λ (l : List ℕ). get_or l 0 0) n ∙ code_first (act s o).reply (act s o).count in
+      let c : x.answer.code ≡ code_of (act s o).reply = ap (λ (l : List ℕ). get_or l 0 0) n ∙ code_first (act s o).reply (act s o).count in
+      let k : 8 ≤ x.used = rw q at (kind bytes) in
       rw q (record {
+        some = omega (arith, k);
         numbers = n;
         used = refl;
-        tally = ap (raised t) (ek ∙ (ap (λ (x : ℕ). row_at x w) c ∙ e));
+        tally = ap (raised t) (ek ∙ (ap (λ (y : ℕ). row_at y w) c ∙ e));
         after = f;
         sound = act_sound s so o ir;
       })
 
-module _ (bytes : List ℕ) (r : Record) (x : Reads bytes r) where
-  module _ (b l p u : ℕ) (q : r ≡ Booking b l p u) where
-    pub booking_in : (b ≤ last_moment) × (l ≤ longest)
-    booking_in = let n : Narrow (Booking b l p u) = rw q at x.narrow in (n.0, n.1)
+-- what an outcome is told as
+pub record Told (outcome : Result Answer Refused) (u w : ℕ) (x : Single) : Type 0 where
+  pub answer : x.answer ≡ answer_of outcome
+  pub used : x.used ≡ u
+  pub row : index_of x.row ≡ row_at (answer_of outcome).code w
 
-    pub booked_steps : (a : Answer) (k : ℕ) (m m' : List ℕ) → ((s : State) → Sound s → Holds m s → Books b l p a m m' s) → k ≡ row_at a.code 0 → Steps bytes (record { answer = a; used = u; row = k }) m m'
-    booked_steps a k m m' f ek s o h = ordered bytes a u k 0 (booking b l p) (sym x.is ∙ ap (meant bytes) q) ek m m' s o tt (booking_row s b l p) (f s o h).answer (f s o h).after
+module _ (bytes : List ℕ) (r : Result Record Unread) (n : Reads bytes r) where
+  pub booked_steps : (b l p u : ℕ) → r ≡ Ok (Booking b l p u) → (y : Result Answer Refused) (x : Single) (m m' : List ℕ)
+      → ((s : State) → Sound s → Holds m s → Books b l p (answer_of y) m m' s) → Told y u 0 x → Steps bytes (Ok x) m m'
+  booked_steps b l p u q y x m m' f e s o h =
+      ordered bytes x 0 (booking b l p) (sym n.is ∙ ap (meant bytes) q ∙ ap (λ (z : ℕ). order z (booking b l p)) (sym e.used)) (rw e.answer e.row) m m' s o tt (booking_row s b l p) (rw e.answer (f s o h).answer) (f s o h).after
 
-  module _ (b u : ℕ) (q : r ≡ Sweep b u) where
-    pub sweep_in : b ≤ last_moment
-    sweep_in = let n : Narrow (Sweep b u) = rw q at x.narrow in n
-
-    pub swept_steps : (a : Answer) (k : ℕ) (m m' : List ℕ) → ((s : State) → Sound s → Holds m s → Sweeps b a m m' s) → k ≡ row_at a.code 1 → Steps bytes (record { answer = a; used = u; row = k }) m m'
-    swept_steps a k m m' f ek s o h = ordered bytes a u k 1 (sweep b) (sym x.is ∙ ap (meant bytes) q) ek m m' s o sweep_in (sweep_row s b) (f s o h).answer (f s o h).after
-
--- ---- no order
-abbrev idle : Single
-idle = record { answer = record { code = 11; channel = 0; line = 0; start = 0; finish = 0; count = 0; dropped = 0 }; used = 0; row = 10 }
-
-idle_steps : (s : State) (t : Tally) (m : List ℕ) → Sound s → After m m s → (y : Reading) → step_on s t y ≡ unused s t 11 → StepsOn (step_on s t y) t idle m m
-unfolding raised
-idle_steps s t m o h y e = rw e (record { numbers = refl; used = refl; tally = refl; after = h; sound = o })
-
--- any other record: it is neither a booking nor a sweep
-pub no_order : (bytes : List ℕ) (r : Record) → Reads bytes r → ((a b l u : ℕ) → r ≡ Booking a b l u → ⊥) → ((a u : ℕ) → r ≡ Sweep a u → ⊥)
-    → (m : List ℕ) → Steps bytes idle m m
-no_order bytes (Opening c l p f u) x n k m s o h t = idle_steps s t m o (after_none h) (reading bytes) (rw (sym x.is))
-no_order bytes (Booking a b l u) x n k m s o h t = absurd (n a b l u refl)
-no_order bytes (Sweep a u) x n k m s o h t = absurd (k a u refl)
-no_order bytes (Refused i) x n k m s o h t = idle_steps s t m o (after_none h) (reading bytes) (rw (sym x.is, x.narrow))
+  pub swept_steps : (b u : ℕ) → r ≡ Ok (Sweep b u) → (y : Result Answer Refused) (x : Single) (m m' : List ℕ)
+      → ((s : State) → Sound s → Holds m s → Sweeps b (answer_of y) m m' s) → Told y u 1 x → Steps bytes (Ok x) m m'
+  swept_steps b u q y x m m' f e s o h =
+      let late : b ≤ last_moment = rw q at n.narrow in
+      ordered bytes x 1 (sweep b) (sym n.is ∙ ap (meant bytes) q ∙ ap (λ (z : ℕ). order z (sweep b)) (sym e.used)) (rw e.answer e.row) m m' s o late (sweep_row s b) (rw e.answer (f s o h).answer) (f s o h).after

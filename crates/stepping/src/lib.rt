@@ -2,69 +2,65 @@
 // That the link is whole its caller has checked, once for all records of a run.
 #![tactic(auto)]
 
+ghost use Rattle.std.specs.Prelude.{◌≡◌, IfOk};
+ghost use Rattle.rule.specs.Answer.{answer_of};
+ghost use Rattle.tally.specs.Counts.{index_of, row_at};
 ghost use Rattle.memory.specs.Holds.{Whole};
 ghost use Rattle.stepping.specs.Steps.{Steps};
 
-use order::Record;
-use rule::answer::Answer;
+use order::{Record, Unread};
+use rule::answer::{Answer, Refused};
+use tally::Row;
 
-// What one record gives: the seven numbers, the bytes used, and the row of the tally that it raises.
+// What one order gives: the seven numbers, the bytes used, and the row of the tally that it raises.
 #[derive(Clone, Copy)]
 pub struct Single {
     pub answer: Answer,
     pub used: usize,
-    pub row: u64,
+    pub row: Row,
 }
 
-// The row of what is no order: none.
-const NO_ROW: u64 = 10;
+// What an order of so many bytes gives, which is counted in the row named if it is accepted.
+fn told(outcome: Result<Answer, Refused>, used: usize, accepted: Row) -> Single
+    requires { IfOk outcome (λ answer. answer.code ≡ 0) }
+    ensures answer { result.answer ≡ answer_of outcome }
+    ensures used { result.used ≡ used }
+    ensures row { index_of result.row ≡ row_at (answer_of outcome).code (index_of accepted) }
+{
+    match outcome {
+        Ok(answer) => Single {
+            answer,
+            used,
+            row: accepted,
+        },
+        Err(refused) => Single {
+            answer: refused.into(),
+            used,
+            row: refused.why.into(),
+        },
+    }
+}
 
-// One record on a whole link. It has one caller, the loop of `running::run`, and leaves the tally to it: so both are
-// compiled into one loop that copies neither an answer nor a tally (docs/DECISIONS.md).
-pub fn step(mem: &mut [u8], bytes: &[u8]) -> Single
+// One record on a whole link; what is no order leaves the link as it was. It has one caller, the loop of `running::run`, and
+// leaves the tally to it: so both are compiled into one loop that copies neither an answer nor a tally (docs/DECISIONS.md).
+pub fn step(mem: &mut [u8], bytes: &[u8]) -> Result<Single, Unread>
     requires { Whole mem.old }
     ensures { Steps bytes.now result mem.old mem.new }
 {
-    let read = order::read(bytes);
-    match read {
+    match order::read(bytes)? {
         Record::Booking {
             arrival,
             length,
             lines,
             used,
         } => {
-            let answer = booking::book(mem, arrival, length, lines);
-            let raised = tally::row(answer.code, 0);
-            Single {
-                answer,
-                used,
-                row: raised,
-            }
+            let outcome = booking::book(mem, arrival, length, lines);
+            Ok(told(outcome, used, Row::Bookings))
         }
         Record::Sweep { moment, used } => {
-            let answer = sweeping::sweep(mem, moment);
-            let raised = tally::row(answer.code, 1);
-            Single {
-                answer,
-                used,
-                row: raised,
-            }
+            let outcome = sweeping::sweep(mem, moment);
+            Ok(told(outcome, used, Row::Sweeps))
         }
-        _ => {
-            let answer = Answer {
-                code: 11,
-                channel: 0,
-                line: 0,
-                start: 0,
-                finish: 0,
-                count: 0,
-                dropped: 0,
-            };
-            Single {
-                answer,
-                used: 0,
-                row: NO_ROW,
-            }
-        }
+        Record::Opening { .. } => Err(Unread),
     }
 }

@@ -2,12 +2,11 @@
 // What the sums are is node's specs/Layout.antt.
 #![tactic(auto)]
 
-ghost use Rattle.std.specs.Prelude.{◌≡◌, true, ◌↔◌, ◌-◌, ◌<◌};
+ghost use Rattle.std.specs.Prelude.{◌≡◌, ◌-◌, ◌<◌};
 ghost use Rattle.shape.specs.Side.{near, far};
-ghost use Rattle.node.specs.Layout.{half_word, over_node, summed_node, SameSums, Over, Mendable, Summable, Sums};
+ghost use Rattle.node.specs.Layout.{half_word, over_node, summed_node, Over, Mendable, Summable, Sums};
 
 use node::{Node, far, load, near, save, save_sums};
-use numbers::pairs::{larger, smaller};
 
 // The least key below two nodes, of which x is on the side named.
 fn least(left: bool, x: Node, y: Node) -> u64
@@ -23,8 +22,8 @@ fn summed(left: bool, n: Node, x: Node, y: Node) -> Node
     Node {
         height: n.height,
         lo: least(left, x, y),
-        top: larger(x.top, y.top),
-        low: smaller(x.low, y.low),
+        top: x.top.max(y.top),
+        low: x.low.min(y.low),
         place: n.place,
     }
 }
@@ -35,7 +34,7 @@ pub fn over(left: bool, x: Node, y: Node, q: u64) -> Node
     ensures { result ≡ over_node (near left x y) (far left x y) q }
 {
     let bare = Node {
-        height: larger(x.height, y.height) + 1,
+        height: x.height.max(y.height) + 1,
         lo: 0,
         top: 0,
         low: 0,
@@ -53,20 +52,7 @@ pub fn mend(mem: &mut [u8], s: usize, q: u64)
     save(mem, s, n);
 }
 
-// Whether two nodes say the same of what is below them.
-fn alike(x: Node, y: Node) -> bool
-    ensures { (result ≡ true) ↔ SameSums x y }
-{
-    if x.lo != y.lo {
-        return false;
-    }
-    if x.top != y.top {
-        return false;
-    }
-    x.low == y.low
-}
-
-// Sums up the nodes at seat q and beside it anew, in the node at seat s over them. Whether that changed anything.
+// Sums up the nodes at seat q and beside it anew, in the node at seat s over them. Whether that changed anything: height and place stay.
 pub fn sum_up(mem: &mut [u8], s: usize, q: u64) -> bool
     requires { Summable mem.old s q }
     ensures { Sums s q result mem.old mem.new }
@@ -75,7 +61,7 @@ pub fn sum_up(mem: &mut [u8], s: usize, q: u64) -> bool
     let x = load(mem, near(true, q));
     let y = load(mem, far(true, q));
     let t = summed(true, n, x, y);
-    if alike(n, t) {
+    if t == n {
         return false;
     }
     save_sums(mem, s, t);

@@ -1,13 +1,12 @@
 -- What a survey of the tree decides, in the order in which it goes: from left to right, a leaf after the other.
 -- `ends` has one more than the last end seen of each channel; `after` is one more than the last key seen.
-use Rattle.std.specs.Prelude.{◌≡◌, List, ℕ, ◌+◌, ◌*◌, ◌%◌, ◌≤◌, ◌<◌, length, get_or, set}
+use Rattle.std.specs.Prelude.{◌≡◌, List, ℕ, ◌+◌, ◌*◌, ◌%◌, ◌≤◌, ◌<◌, length, get_or, set, Option, IfSome, IfNone}
 use Rattle.rule.specs.Moments.{last_moment}
 use Rattle.rule.specs.Key.{channel_of}
 use Rattle.shape.specs.Tree.{Tree, leaf, node, height, size, uses}
 use Rattle.node.specs.Layout.{bytes_for, most_places}
 use Rattle.node.specs.Rep.{Stands}
 use Rattle.inspect.specs.Inspect.{Near, NextVoid}
-use Rattle.survey.specs.declared.Progress.{Progress}
 
 -- what a survey of a seat may count on: n places in the memory, the seat one of theirs or the root's, an end for each channel, a floor that is a moment
 pub record Reach (m x : List ℕ) (n channels floor seat : ℕ) : Type 0 where
@@ -49,14 +48,14 @@ pub record Taken (m : List ℕ) (n channels floor : ℕ) (x : List ℕ) (seat li
   pub few : 2 * size t ≤ budget + 1
   pub good : Good channels floor after x t
 
--- the survey saw the tree t, with a visit to each of its 2 * size - 1 nodes
-pub record Seen (x y : List ℕ) (budget : ℕ) (s : Progress) (t : Tree) : Type 0 where
-  pub next : s.next ≡ next t
+-- the survey saw the tree t, with a visit to each of its 2 * size - 1 nodes, and comes to one more than its last key
+pub record Seen (x y : List ℕ) (budget rest last : ℕ) (t : Tree) : Type 0 where
+  pub next : last ≡ next t
   pub run : y ≡ run x t
-  pub left : s.left + 2 * size t ≡ budget + 1
+  pub left : rest + 2 * size t ≡ budget + 1
 
--- a next key of 0 says that there is no such tree; each visit takes one from the budget, also where there is none
-pub record Surveyed (m : List ℕ) (n channels floor : ℕ) (x y : List ℕ) (seat limit after budget : ℕ) (s : Progress) : Type 0 where
-  pub yes : (s.next ≡ 0 → ⊥) → (t : Tree) × Taken m n channels floor x seat limit after budget t × Seen x y budget s t
-  pub no : s.next ≡ 0 → (t : Tree) → Taken m n channels floor x seat limit after budget t → ⊥
-  pub work : s.left ≤ budget
+-- None says that there is no such tree; each visit takes one from the budget, also where there is none
+pub record Surveyed (m : List ℕ) (n channels floor : ℕ) (x y : List ℕ) (seat limit after budget rest : ℕ) (s : Option ℕ) : Type 0 where
+  pub yes : IfSome s (λ last. (t : Tree) × Taken m n channels floor x seat limit after budget t × Seen x y budget rest last t)
+  pub no : IfNone s ((t : Tree) → Taken m n channels floor x seat limit after budget t → ⊥)
+  pub work : rest ≤ budget

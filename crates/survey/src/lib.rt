@@ -13,11 +13,12 @@ ghost use Rattle.survey.specs.Planted.{Planted};
 
 use rule::moments::OPEN_END;
 
-// What a survey comes to: one more than the last key (0: no such tree), and what is left of the budget of visits.
+// What the header says that a survey goes by.
 #[derive(Clone, Copy)]
-pub struct Progress {
-    pub next: u64,
-    pub left: u64,
+struct Header {
+    places: u64,
+    channels: u64,
+    floor: u64,
 }
 
 // Whether a node's children stand at a place of the link's, of which there are so many: it has the left seat there.
@@ -25,67 +26,48 @@ fn placed(places: u64, first: u64) -> bool
     requires { places ≤ most_places }
     ensures { Says (Seated places first) result }
 {
-    if first == 0 {
-        return false;
-    }
-    if first % node::PLACE_WORDS != 0 {
-        return false;
-    }
-    if node::PLACE_WORDS * places <= first {
-        return false;
-    }
-    true
+    first != 0 && first % node::PLACE_WORDS == 0 && first < node::PLACE_WORDS * places
 }
 
-// Surveys the tree at a seat, of a height below the limit, with keys from `after` on.
+// Surveys the tree at a seat, of a height below the limit, with keys from `after` on: one more than its last key, if there is such a tree.
+// Each node looked at takes one from the visits, also where there is no such tree.
 fn survey(
     mem: &[u8],
+    header: &Header,
     ends: &mut [u64],
-    places: u64,
-    channels: u64,
-    floor: u64,
+    visits: &mut u64,
     seat: usize,
     limit: u64,
     after: u64,
-    budget: u64,
-) -> Progress
-    requires { Reach mem.now ends.old places channels floor seat }
-    ensures { Surveyed mem.now places channels floor ends.old ends.new seat limit after budget result }
+) -> Option<u64>
+    requires { Reach mem.now ends.old header.now.places header.now.channels header.now.floor seat }
+    ensures { Surveyed mem.now header.now.places header.now.channels header.now.floor ends.old ends.new seat limit after visits.old visits.new result }
 {
-    if budget == 0 {
-        return Progress { next: 0, left: 0 };
+    if *visits == 0 {
+        return None;
     }
-    let left = budget - 1;
+    *visits -= 1;
     let n = node::load(mem, seat);
     let h = n.height;
     if limit <= h {
-        return Progress { next: 0, left };
+        return None;
     }
     if h == 0 {
-        if !inspect::leaf(ends, channels, floor, after, n) {
-            return Progress { next: 0, left };
-        }
-        let next = n.lo + 1;
-        return Progress { next, left };
+        return inspect::leaf(ends, header.channels, header.floor, after, n).then(|| n.lo + 1);
     }
-    if !placed(places, n.place) {
-        return Progress { next: 0, left };
+    if !placed(header.places, n.place) {
+        return None;
     }
     let l = node::near(true, n.place);
     let r = node::far(true, n.place);
-    let a = survey(mem, ends, places, channels, floor, l, h, after, left);
-    if a.next == 0 {
-        return a;
-    }
-    let b = survey(mem, ends, places, channels, floor, r, h, a.next, a.left);
-    if b.next == 0 {
-        return b;
-    }
-    if !inspect::joined(n, node::load(mem, l), node::load(mem, r)) {
-        let left = b.left;
-        return Progress { next: 0, left };
-    }
-    b
+    // no `?`: LLVM takes what follows one for unlikely, and two of them keep `load` from being inlined below
+    let Some(middle) = survey(mem, header, ends, visits, l, h, after) else {
+        return None;
+    };
+    let Some(next) = survey(mem, header, ends, visits, r, h, middle) else {
+        return None;
+    };
+    inspect::joined(n, node::load(mem, l), node::load(mem, r)).then_some(next)
 }
 
 // Whether the last void of each channel has no end.
@@ -93,14 +75,7 @@ fn open_ends(ends: &[u64], channels: usize) -> bool
     requires { channels ≤ length ends.now }
     ensures { Says ((c : ℕ) → c < channels → get_or ends.now c 0 ≡ open_end + 1) result }
 {
-    let mut c: usize = 0;
-    while c < channels {
-        if ends[c] != OPEN_END + 1 {
-            return false;
-        }
-        c += 1;
-    }
-    true
+    ends[..channels].iter().all(|&end| end == OPEN_END + 1)
 }
 
 // Whether the tree at the root's seat is a whole link's.
@@ -112,25 +87,15 @@ pub fn tree(mem: &[u8]) -> bool
     let channels = numbers::words::get(mem, memory::CHANNELS);
     let floor = numbers::words::get(mem, memory::FLOOR);
     let kept = numbers::words::get(mem, memory::KEPT);
+    let header = Header {
+        places: room + 1,
+        channels,
+        floor,
+    };
     let limit = ruling::height::allowed(kept) + 1;
     // one for each channel that a link may have
     let mut ends = [0u64; ruling::bounds::MOST_CHANNELS as usize];
-    let s = survey(
-        mem,
-        &mut ends,
-        room + 1,
-        channels,
-        floor,
-        node::ROOT,
-        limit,
-        0,
-        2 * kept - 1,
-    );
-    if s.next == 0 {
-        return false;
-    }
-    if s.left != 0 {
-        return false;
-    }
-    open_ends(&ends, channels as usize)
+    let mut visits = 2 * kept - 1;
+    let last = survey(mem, &header, &mut ends, &mut visits, node::ROOT, limit, 0);
+    last.is_some() && visits == 0 && open_ends(&ends, channels as usize)
 }

@@ -10,8 +10,12 @@ use Rattle.rule.specs.Moments.{last_moment, open_end}
 use Rattle.rule.specs.Kept.{least, least_most}
 use Rattle.rule.specs.Order.{sweep}
 use Rattle.rule.specs.Codes.{sweep_code}
-use Rattle.rule.specs.Answer.{seven, numbers_of}
+use Rattle.std.specs.Prelude.{Result, Err}
+use Rattle.rule.specs.Answer.{seven, numbers_of, answer_of}
+use Rattle.rule.specs.Refusal.{number_of, refused_some}
 use Rattle.rule.specs.declared.answer.Answer.{Answer}
+use Rattle.rule.specs.declared.answer.Refused.{Refused}
+use Rattle.rule.specs.declared.refusal.Refusal.{Refusal}
 use Rattle.shape.specs.Tree.{In, low, size, Balanced}
 use Rattle.shape.specs.PlaceLaws.{size_weight}
 use Rattle.shape.specs.TreeLaws.{all_in, low_ends}
@@ -62,9 +66,10 @@ module _ (m : List ℕ) (moment floor leap code : ℕ) (ef : floor ≡ word m 4)
       let i : floor ≡ s.floor = ef ∙ floor_is H in
       sym (rw i at (ec s.settings (sym (el ∙ H.heads 3 (omega arith)))))
 
-  pub refused_early : (code ≡ 0 → ⊥) → (s : State) → Sound s → Holds m s
-      → Sweeps moment (record { code = code; channel = 0; line = 0; start = 0; finish = 0; count = 0; dropped = 0 }) m m s
-  refused_early n s W H = sweeps moment _ m m s (refusal s code) (rw (code_is s H) (sweep_early code s moment n)) refl (after_none H)
+  pub refused_early : (why : Refusal) → code ≡ number_of why → (r : Result Answer Refused) → r ≡ Err (record { why = why; count = 0 })
+      → (s : State) → Sound s → Holds m s → Sweeps moment (answer_of r) m m s
+  refused_early why e r q s W H =
+      rw q (sweeps moment _ m m s (refusal s code) (rw (code_is s H) (sweep_early code s moment (λ z. omega (arith, e, refused_some why)))) (rw e) (after_none H))
 
   module _ (z : code ≡ 0) (late : moment ≤ last_moment) (bound : ℕ) (eb : bound ≡ least moment) where
     -- each channel keeps a void with the open end

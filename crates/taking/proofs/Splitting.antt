@@ -1,11 +1,9 @@
--- A void taken apart, from program point to program point; and the test of the room before it.
+-- A void taken apart, from program point to program point.
 use mathlib.Core.Path.{◌≡◌, refl, sym, ◌∙◌}
-use mathlib.Core.Logic.{inl, inr}
 use mathlib.Core.Bool.{Bool, true, false}
 use mathlib.Core.List.{List}
 use Prim.Native.Nat.{ℕ, ◌≤◌, ◌<◌}
 use native.Mathlib.Omega.{arith}
-use lib.Dec.{leb}
 use Rattle.numbers.specs.Words.{word}
 use Rattle.rule.specs.Kept.{kept}
 use Rattle.rule.specs.Key.{key_of, start_of, channel_of}
@@ -15,37 +13,22 @@ use Rattle.shape.specs.EvenLaws.{even_set, even_insert}
 use Rattle.state.specs.State.{State, first, shorten, add, drop}
 use Rattle.state.specs.Act.{split}
 use Rattle.state.specs.Sound.{most_key}
-use Rattle.state.specs.KeptLaws.{case_kept}
 use Rattle.state.specs.PlaceLaws.{placed_shorten, placed_add}
 use Rattle.memory.specs.Holds.{Holds, After}
-use Rattle.memory.specs.Steps.{Link, Pointed, Noted, Roomy, Several, Shortens, Adds, Drops}
+use Rattle.memory.specs.Steps.{Link, Roomy, Several, Shortens, Adds, Drops}
 use Rattle.shape.specs.SizeLaws.{size_set, size_insert}
 use Rattle.memory.proofs.Whole.{whole_link, floor_is, after_none, after_then}
 use Rattle.node.specs.Layout.{root_seat}
 use Rattle.tracing.specs.Ways.{Way}
 use Rattle.tracing.proofs.Alike.{alike_set, way_alike}
 use Rattle.shape.specs.Arrange.{set_end}
-use Rattle.taking.specs.Take.{Splitting, Ahead, overfull}
+use Rattle.taking.specs.Take.{Splitting, Ahead, Puts}
 
 -- what a test of a piece says of the state
 pub piece : {m : List ℕ} {s : State} → Holds m s → (x : ℕ) → x ≡ word m 4 → (y a z : ℕ) → y ≡ a → (b v : Bool) → b ≡ kept x y z → b ≡ v → kept s.floor a z ≡ v
 piece {m} {s} H x e y a z ey b v q g =
     let i : x ≡ s.floor = e ∙ floor_is H in
     sym (rw (i, ey) at q) ∙ g
-
--- ---- the test of the room
-module _ (m : List ℕ) (s : State) (H : Holds m s) (k e r f : ℕ) where
-  pub room_full : kept s.floor (start_of k) r ≡ true → kept s.floor f e ≡ true → (a b : ℕ) → a ≡ word m 0 → b ≡ word m 6 → leb a b ≡ overfull s k e r f
-  room_full y z a b ea eb =
-      let i : a ≡ s.settings.room = ea ∙ H.heads 0 (omega arith) in
-      let j : b ≡ size s.tree = eb ∙ H.heads 6 (omega arith) in
-      rw (y, z, i, j)
-
-  pub one_behind : kept s.floor (start_of k) r ≡ false → false ≡ overfull s k e r f
-  one_behind y = rw y (elim (case_kept s.floor f e) [ inl z ↦ rw z.1 | inr z ↦ rw z.1 ])
-
-  pub one_front : kept s.floor f e ≡ false → false ≡ overfull s k e r f
-  one_front z = rw z (elim (case_kept s.floor (start_of k) r) [ inl y ↦ rw y.1 | inr y ↦ rw y.1 ])
 
 -- ---- the void taken apart
 module _ (m : List ℕ) (k e r f : ℕ) (s : State) (S : Splitting s k e r f) (H : Holds m s) where
@@ -54,9 +37,6 @@ module _ (m : List ℕ) (k e r f : ℕ) (s : State) (S : Splitting s k e r f) (H
 
   link : Link m s
   link = whole_link S.sound H
-
-  pub noted_pre : (ws : List ℕ) (d : ℕ) → Pointed m ws d k e → Noted ws d k m
-  noted_pre ws d P = (s, record { link = link; ordered = S.sound.ordered; end = e; pointed = P })
 
   -- the key of the piece behind, as the code makes it
   abbrev pub Next : ℕ → Type 0
@@ -94,11 +74,7 @@ module _ (m : List ℕ) (k e r f : ℕ) (s : State) (S : Splitting s k e r f) (H
     unfolding split shorten add
     split_both y z n i m2 h = rw (y, z) (after_then refl (g s link) (rw (next_is n i) at (h (shorten s k r) short)))
 
-  -- it is not: the void goes, after the piece behind has come
-  pub roomy_behind : Roomy m
-  roomy_behind = (s, link, omega (arith, S.room.spare, S.sound.many))
-
-  -- the state before the void goes
+  -- it is not: the state before the void goes, after the piece behind has come
   pub record Going (m1 : List ℕ) : Type 0 where
     pub was : State
     pub after : After m m1 was
@@ -108,7 +84,7 @@ module _ (m : List ℕ) (k e r f : ℕ) (s : State) (S : Splitting s k e r f) (H
     pub is : drop was k ≡ split s k e r f
 
   module _ (y : kept s.floor (start_of k) r ≡ false) where
-    pub going_more : kept s.floor f e ≡ true → (n : ℕ) → Next n → (m1 : List ℕ) → Adds n e m m1 → Going m1
+    going_more : kept s.floor f e ≡ true → (n : ℕ) → Next n → (m1 : List ℕ) → Adds n e m m1 → Going m1
     unfolding split add drop
     going_more z n i m1 h =
         let A : After m m1 (add s K e) = rw (next_is n i) at (h s link) in
@@ -125,9 +101,13 @@ module _ (m : List ℕ) (k e r f : ℕ) (s : State) (S : Splitting s k e r f) (H
           is = rw (y, z);
         }
 
-    pub going_none : kept s.floor f e ≡ false → Going m
+    going_none : kept s.floor f e ≡ false → Going m
     unfolding split drop
     going_none z = record { was = s; after = after_none H; linked = link; two = S.room.another y z; same = refl; is = rw (y, z) }
+
+    pub going : (b : Bool) → kept s.floor f e ≡ b → (n : ℕ) → Next n → (m1 : List ℕ) → Puts b n e m m1 → Going m1
+    going true z n i m1 h = going_more z n i m1 h
+    going false z n i m1 h = rw h (going_none z)
 
   pub several : (m1 : List ℕ) → Going m1 → Several m1
   several m1 G = (G.was, G.linked, G.two)

@@ -1,6 +1,6 @@
 -- What taking a void promises in memory: of every state that the memory holds, the state after is the void split, and the test
 -- of the room is the rule's.
-use Rattle.std.specs.Prelude.{List, Bool, ℕ, ◌*◌}
+use Rattle.std.specs.Prelude.{◌≡◌, List, Bool, true, false, ℕ, ◌*◌}
 use Rattle.rule.specs.Key.{per_tick, start_of}
 use Rattle.rule.specs.Codes.{too_many}
 use Rattle.shape.specs.Tree.{size, In}
@@ -11,6 +11,7 @@ use Rattle.state.specs.Act.{split}
 use Rattle.state.specs.Room.{Room}
 use Rattle.state.specs.Sound.{Sound}
 use Rattle.memory.specs.Holds.{Holds, After}
+use Rattle.memory.specs.Steps.{Adds}
 
 -- a void that may be taken apart: one of a sound link, with room for its pieces
 pub record Splitting (s : State) (k e r f : ℕ) : Type 0 where
@@ -24,6 +25,11 @@ Splittable k e r f m = (s : State) × Splitting s k e r f × Holds m s
 -- a way is noted that every key from f's first on and below `after` leads
 abbrev pub Ahead : (f d after : ℕ) → List ℕ → List ℕ → Type 0
 Ahead f d after ws m = Serves m root_seat (f * per_tick) after d ws
+
+-- a void more, if it is kept
+abbrev pub Puts : Bool → (k e : ℕ) → (m m' : List ℕ) → Type 0
+Puts true k e m m' = Adds k e m m'
+Puts false k e m m' = m' ≡ m
 
 abbrev pub Splits : (k e r f : ℕ) → (m m' : List ℕ) → Type 0
 Splits k e r f m m' = (s : State) → Splitting s k e r f → Holds m s → After m m' (split s k e r f)

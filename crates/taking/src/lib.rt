@@ -2,14 +2,14 @@
 // Which void is taken, and from when, is the crate seeking's.
 #![tactic(auto)]
 
-ghost use Rattle.std.specs.Prelude.{◌≡◌, ◌≤◌, ◌<◌};
+ghost use Rattle.std.specs.Prelude.{◌≡◌, true, ◌≤◌, ◌<◌};
 ghost use Rattle.rule.specs.Moments.{last_moment};
 ghost use Rattle.state.specs.State.{State};
 ghost use Rattle.memory.specs.Holds.{Holds, Whole};
 ghost use Rattle.node.specs.Layout.{root_seat};
 ghost use Rattle.tracing.specs.Ways.{Way};
 ghost use Rattle.memory.specs.Steps.{Pointed, Roomy, Adds};
-ghost use Rattle.taking.specs.Take.{Splits, Splittable, Ahead, overfull};
+ghost use Rattle.taking.specs.Take.{Puts, Splits, Splittable, Ahead, overfull};
 
 use numbers::words::get;
 
@@ -22,6 +22,16 @@ fn put_in(mem: &mut [u8], far: &[u16], deep: usize, after: u64, key: u64, end: u
     if key < after {
         memory::add_on(mem, far, deep, key, end);
     } else {
+        memory::add(mem, key, end);
+    }
+}
+
+// One void more, if its piece is kept.
+fn put_behind(mem: &mut [u8], kept: bool, key: u64, end: u64)
+    requires { kept ≡ true → Roomy mem.old }
+    ensures { Puts kept key end mem.old mem.new }
+{
+    if kept {
         memory::add(mem, key, end);
     }
 }
@@ -56,9 +66,7 @@ pub fn split(
         }
         return;
     }
-    if behind {
-        memory::add(mem, next, e);
-    }
+    put_behind(mem, behind, next, e);
     memory::drop(mem, key);
 }
 

@@ -4,6 +4,8 @@ use Rattle.numbers.specs.Case.{pick}
 use Rattle.rule.specs.Order.{Order, booking, sweep}
 use Rattle.rule.specs.Answer.{Reply, booked, swept, refused}
 use Rattle.tally.specs.declared.Tally.{Tally}
+use Rattle.tally.specs.declared.Row.{Row}
+use Rattle.tally.specs.declared.Row.TheVariants.{Bookings, Sweeps, Code3, Code4, Code5, Code6, Code7, Code8, Code9, Code10}
 
 -- "one count for bookings, one for sweeps, one for each of codes 3 to 10", in this order
 abbrev pub rows : ℕ
@@ -22,6 +24,19 @@ counts t =
     ∷ t.code9
     ∷ t.code10
     ∷ []
+
+-- the place of a row among the counts
+abbrev pub index_of : Row → ℕ
+index_of Bookings = 0
+index_of Sweeps = 1
+index_of Code3 = 2
+index_of Code4 = 3
+index_of Code5 = 4
+index_of Code6 = 5
+index_of Code7 = 6
+index_of Code8 = 7
+index_of Code9 = 8
+index_of Code10 = 9
 
 -- the row that a reply raises
 abbrev pub row_of : Reply → ℕ

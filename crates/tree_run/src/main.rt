@@ -8,6 +8,7 @@ ghost use Rattle.node.specs.Paths.{longest_way};
 ghost use Rattle.tree_run.specs.Grown.{bytes, voids, Has};
 
 use node::ROOT;
+use std::io;
 
 const VOIDS: u64 = 2000;
 
@@ -56,25 +57,22 @@ fn grow(mem: &mut [u8])
     ensures { Has mem.new voids }
 {
     plant(mem);
-    let mut i = 1;
-    while i < VOIDS {
+    for i in 1..VOIDS {
         tree::insert(mem, ROOT, key(i), end(i), i);
-        i += 1;
     }
 }
 
 // Searches for ROUNDS bursts. The digest of the answers.
+#[tactic(auto, using(crate::proofs::Steps::searchable))]
 fn look(mem: &[u8], way: &mut [u16], far: &mut [u16]) -> u64
     requires has { Has mem.now voids }
     requires longest_way_in_bounds { (longest_way ≤ length way.old) × (longest_way ≤ length far.old) }
 {
     let mut digest = 0;
-    let mut i = 0;
-    while i < ROUNDS {
+    for i in 0..ROUNDS {
         let r = moment(i * 3 + 1);
         let x = search::search(mem, ROOT, r, r + i % 900, way, far);
-        digest = mix(mix(digest, x.visits), x.key);
-        i += 1;
+        digest = mix(mix(digest, x.visits), x.leaf.map_or(0, |leaf| leaf.key));
     }
     digest
 }
@@ -94,26 +92,19 @@ fn exchange(mem: &mut [u8])
     requires { Has mem.old voids }
     ensures { Has mem.new voids }
 {
-    let mut i = 0;
-    while i < ROUNDS {
+    for i in 0..ROUNDS {
         exchange_one(mem, i);
-        i += 1;
     }
 }
 
-fn say(v: u64) {
-    io::print_decimal(1, v);
-    io::write_all(1, b"\n");
-}
-
 // A digest of the searches before the exchanges, one of those after, and the least end at last.
-fn main() {
+fn main(rt: HostRuntime) -> io::Result<()> {
     let mut mem = [0u8; BYTES];
     let mut way = [0u16; tracing::LONGEST_WAY];
     let mut far = [0u16; tracing::LONGEST_WAY];
     grow(&mut mem);
-    say(look(&mem, &mut way, &mut far));
+    println!(rt; "{}", look(&mem, &mut way, &mut far))?;
     exchange(&mut mem);
-    say(look(&mem, &mut way, &mut far));
-    say(node::load(&mem, ROOT).low);
+    println!(rt; "{}", look(&mem, &mut way, &mut far))?;
+    println!(rt; "{}", node::load(&mem, ROOT).low)
 }

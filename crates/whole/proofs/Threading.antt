@@ -1,11 +1,14 @@
 -- The list of spare places, a place at a time, and as a list: marks tell its places apart.
 use mathlib.Core.Path.{◌≡◌, refl, sym, ap, ◌∙◌}
-use mathlib.Core.Bool.{Bool}
+use mathlib.Core.Bool.{Bool, false}
 use mathlib.Core.List.{List, [], ◌∷◌}
 use Prim.Native.Nat.{ℕ, zero, suc, ◌+◌, ◌*◌, ◌-◌, ◌<◌, ◌≤◌}
 use native.Mathlib.Decide.{dec_lt}
 use native.Mathlib.Omega.{arith}
+use lib.Dec.{eqb-suc-zero}
 use lib.ListN.{length}
+use Rattle.std.specs.Prelude.{nat_eq}
+use Rattle.settled.proofs.Saying.{says_map}
 use Rattle.numbers.specs.Words.{word}
 use Rattle.shape.specs.Tree.{same}
 use Rattle.shape.specs.PlaceLaws.{same_self, same_is, same_most}
@@ -18,23 +21,13 @@ use Rattle.memory.specs.Holds.{spare_mark, spare_node, Spares}
 use Rattle.settled.specs.Says.{Says}
 use Rattle.whole.specs.Parts.{Threads, Spared}
 
--- ---- the two nodes of a place
-fields : (v : Node) → v ≡ record { height = v.height; lo = v.lo; top = v.top; low = v.low; place = v.place }
-fields v = refl
-
-pub spare_is : (v : Node) (k : ℕ) → v.height ≡ spare_mark → v.low ≡ k → v.lo ≡ 0 → v.top ≡ 0 → v ≡ spare_node k v.place
-spare_is v k h l a b = fields v ∙ (rw (h, l, a, b))
-
-pub blank_is : (v : Node) → v.height ≡ 0 → v.lo ≡ 0 → v.top ≡ 0 → v.low ≡ 0 → v.place ≡ 0 → v ≡ leaf_node 0 0
-blank_is v h a b c d = fields v ∙ (rw (h, a, b, c, d))
-
 -- ---- a place at a time
-pub none_is : (m : List ℕ) (n k at : ℕ) → k ≤ 0 → Threads m n k at → at ≡ 0
+none_is : (m : List ℕ) (n k at : ℕ) → k ≤ 0 → Threads m n k at → at ≡ 0
 unfolding Threads
 none_is m n zero at h s = s
 none_is m n (suc k) at h s = absurd (omega arith)
 
-pub is_none : (m : List ℕ) (n k at : ℕ) → k ≤ 0 → at ≡ 0 → Threads m n k at
+is_none : (m : List ℕ) (n k at : ℕ) → k ≤ 0 → at ≡ 0 → Threads m n k at
 unfolding Threads
 is_none m n zero at h e = e
 is_none m n (suc k) at h e = absurd (omega arith)
@@ -66,15 +59,11 @@ pub record Way (m : List ℕ) (n k at k' at' : ℕ) : Type 0 where
   pub to : Threads m n k' at' → Threads m n k at
   pub from : Threads m n k at → Threads m n k' at'
 
-pub way_start : (m : List ℕ) (n k at : ℕ) → Way m n k at k at
-way_start m n k at = record { less = omega arith; to = λ s. s; from = λ s. s }
-
 module _ (m : List ℕ) (n k at k' at' : ℕ) (w : Way m n k at k' at') (some : 0 < k') where
-  pub way_none : at' ≡ 0 → Threads m n k at → ⊥
-  way_none h s = omega (arith, (head m n k' at' some (w.from s)).some)
-
-  pub way_out : n ≤ at' → Threads m n k at → ⊥
-  way_out h s = omega (arith, (head m n k' at' some (w.from s)).inside)
+  pub way_out : (1 ≤ at' → n ≤ at') → Threads m n k at → ⊥
+  way_out h s =
+      let g = head m n k' at' some (w.from s) in
+      omega (arith, h g.some, g.inside)
 
   -- the two nodes there, v and u, at the seats i and j
   module _ (v : Node) (i : ℕ) (ei : i ≡ 8 * at') (ev : v ≡ node_at m i) where
@@ -99,6 +88,14 @@ module _ (m : List ℕ) (n k at k' at' : ℕ) (w : Way m n k at k' at') (some : 
             to = λ s. w.to (more m n k' at' some (record { some = omega (arith, z); inside = l; is = rw e at q; beside = sym is_right ∙ b; rest = rw e at s }));
             from = λ s. rw e (head m n k' at' some (w.from s)).rest;
           }
+
+-- at its end: the list is whole exactly if nothing comes after it
+none : (x : ℕ) → Says (x ≡ 0) (nat_eq x 0)
+none zero = refl
+none (suc x) = let e : nat_eq (suc x) 0 ≡ false = eqb-suc-zero x in rw e (λ f. omega arith)
+
+pub way_end : (m : List ℕ) (n k at k' at' : ℕ) → Way m n k at k' at' → k' ≤ 0 → Says (Threads m n k at) (nat_eq at' 0)
+way_end m n k at k' at' w h = says_map (at' ≡ 0) (Threads m n k at) (nat_eq at' 0) (λ e. w.to (is_none m n k' at' h e)) (λ s. none_is m n k' at' h (w.from s)) (none at')
 
 -- what the words say
 pub read_spares : (m : List ℕ) (r k at : ℕ) (b : Bool) → r ≡ word m 0 → k ≡ word m 6 → at ≡ word m 7

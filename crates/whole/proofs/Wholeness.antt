@@ -5,7 +5,7 @@ use mathlib.Core.List.{List}
 use Prim.Native.Nat.{ℕ, zero, suc, ◌+◌, ◌*◌, ◌-◌, ◌≤◌, ◌<◌}
 use native.Mathlib.Decide.{dec_lt}
 use native.Mathlib.Omega.{arith}
-use lib.ListN.{length, get_or}
+use lib.ListN.{length, get_or, get_or-eq_default}
 use Rattle.numbers.specs.Words.{word}
 use Rattle.rule.specs.SettingsLaws.{Bounds, in_bounds_lem, bounds_in}
 use Rattle.shape.specs.Tree.{Tree, leaf, node, height, size, same, uses}
@@ -24,7 +24,7 @@ use Rattle.survey.specs.Planted.{Treed, Planted}
 use Rattle.whole.specs.Parts.{spare_many, Spared}
 use Rattle.memory.proofs.Parts.{below_is, below_in, below_most, padded_at}
 use Rattle.whole.proofs.Counting.{covered}
-use Rattle.settled.proofs.Settling.{length_listed, listed_at, listed_is, get_past}
+use Rattle.settled.proofs.Settling.{length_listed, listed_at, listed_is}
 use Rattle.whole.proofs.Threading.{spares_at, length_spares, first_spare, threads_spares, spares_threads, marked, spare_once}
 
 -- ---- from the whole to the parts
@@ -79,7 +79,7 @@ module _ (m : List ℕ) (s : State) (S : Sound s) (H : Holds m s) where
         delays = rw (word_lines, listed_is s.settings.delays m 8 (λ i h. word_delay i (omega (arith, b.lines)))) b.delays;
         zeros = λ j g h.
             let e : 8 + (j - 8) ≡ j = omega arith in
-            ap (word m) (sym e) ∙ (word_delay (j - 8) (omega arith) ∙ get_past s.settings.delays (j - 8) (omega (arith, word_lines)));
+            ap (word m) (sym e) ∙ (word_delay (j - 8) (omega arith) ∙ get_or-eq_default s.settings.delays 0 (omega (arith, word_lines)));
       }
 
   is_treed : Treed m s.tree
@@ -107,6 +107,9 @@ module _ (m : List ℕ) (s : State) (S : Sound s) (H : Holds m s) where
 
 pub whole_settled : (m : List ℕ) → Whole m → Settled m
 whole_settled m w = is_settled m w.0 w.1 w.2
+
+pub whole_long : (m : List ℕ) → Whole m → 224 ≤ length m
+whole_long m w = omega (arith, (whole_settled m w).long)
 
 pub whole_treed : (m : List ℕ) → Whole m → Planted m
 whole_treed m w = (w.0.tree, is_treed m w.0 w.1 w.2)
@@ -187,7 +190,7 @@ module _ (m : List ℕ) (t : Tree) (A : Settled m) (B : Treed m t) (C : Spared m
       delay : (i : ℕ) → i < 20 → word m (8 + i) ≡ get_or (listed (word m 2) m 8) i 0
       delay i h = elim (dec_lt i (word m 2)) [
         | yes y ↦ sym (listed_at (word m 2) m 8 i y)
-        | no y ↦ A.zeros (8 + i) (omega arith) (omega arith) ∙ sym (get_past (listed (word m 2) m 8) i (omega (arith, length_listed (word m 2) m 8)))
+        | no y ↦ A.zeros (8 + i) (omega arith) (omega arith) ∙ sym (get_or-eq_default (listed (word m 2) m 8) 0 (omega (arith, length_listed (word m 2) m 8)))
       ]
 
   rows : Bounds (read m t).settings

@@ -10,14 +10,8 @@ pub mod spares;
 pub fn whole(mem: &[u8]) -> bool
     ensures { Says (Whole mem.now) result }
 {
-    if mem.len() < node::HEADER_BYTES {
-        return false;
-    }
-    if !settled::settled(mem) {
-        return false;
-    }
-    if !survey::tree(mem) {
-        return false;
-    }
-    spares::spared(mem)
+    node::HEADER_BYTES <= mem.len()
+        && settled::settled(mem)
+        && survey::tree(mem)
+        && spares::spared(mem)
 }

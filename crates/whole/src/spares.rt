@@ -13,41 +13,21 @@ use node::Node;
 fn spare(n: Node, after: u64) -> bool
     ensures { Says (n ≡ spare_node after n.place) result }
 {
-    if n.height != memory::SPARE_MARK {
-        return false;
-    }
-    if n.low != after {
-        return false;
-    }
-    if n.lo != 0 {
-        return false;
-    }
-    if n.top != 0 {
-        return false;
-    }
-    true
+    let marked = Node {
+        height: memory::SPARE_MARK,
+        lo: 0,
+        top: 0,
+        low: after,
+        place: n.place,
+    };
+    n == marked
 }
 
 // Whether n is all 0, as the right node of a spare place.
 fn blank(n: Node) -> bool
     ensures { Says (n ≡ leaf_node 0 0) result }
 {
-    if n.height != 0 {
-        return false;
-    }
-    if n.lo != 0 {
-        return false;
-    }
-    if n.top != 0 {
-        return false;
-    }
-    if n.low != 0 {
-        return false;
-    }
-    if n.place != 0 {
-        return false;
-    }
-    true
+    n == node::leaf(0, 0)
 }
 
 // Whether the spare places are all there, from the header's first one on.
@@ -57,27 +37,17 @@ pub fn spared(mem: &[u8]) -> bool
 {
     let room = numbers::words::get(mem, memory::ROOM);
     let kept = numbers::words::get(mem, memory::KEPT);
-    let mut many = room + 1 - kept;
     let mut at = numbers::words::get(mem, memory::SPARE);
-    while 0 < many {
-        if at == 0 {
+    for after in (0..room + 1 - kept).rev() {
+        if !(1..=room).contains(&at) {
             return false;
         }
-        if room < at {
-            return false;
-        }
-        many -= 1;
         let n = node::load(mem, node::near(true, node::PLACE_WORDS * at));
-        if !spare(n, many) {
-            return false;
-        }
-        if !blank(node::load(mem, node::far(true, node::PLACE_WORDS * at))) {
+        let beside = node::load(mem, node::far(true, node::PLACE_WORDS * at));
+        if !spare(n, after) || !blank(beside) {
             return false;
         }
         at = n.place;
     }
-    if at != 0 {
-        return false;
-    }
-    true
+    at == 0
 }

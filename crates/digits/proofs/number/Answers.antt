@@ -3,43 +3,28 @@ use mathlib.Core.Path.{◌≡◌, refl, sym, ◌∙◌}
 use Prim.Native.Nat.{◌≤◌, ◌<◌}
 use native.Mathlib.Omega.{arith}
 use lib.ListN.{length, get_or}
+use Rattle.std.proofs.Common.{rules}
 use Rattle.digits.specs.Digits.{digits}
-use Rattle.digits.proofs.DigitLaws.{step, last, grows, small}
+use Rattle.digits.proofs.DigitLaws.{step, last, grows}
 use Rattle.digits.proofs.number.Goals as goal
 
-pub loop-i-init : goal.loop-i-init
+pub loop-byte-init : goal.loop-byte-init
 unfolding digits
-loop-i-init c = (omega arith, omega arith, refl)
+loop-byte-init c = (omega arith, refl)
 
-pub overflow_mul-so_far : goal.overflow_mul-so_far
-overflow_mul-so_far c =
-    let s = small c.loop-i.so_far c.loop-i.i c.loop-i.invariant.1 (omega arith) in
-    omega arith
-
-pub overflow_add-so_far : goal.overflow_add-so_far
-overflow_add-so_far c =
-    let l = c.loop-i in
-    let s = small l.so_far l.i l.invariant.1 (omega arith) in
-    omega arith
-
-pub loop-i-smaller : goal.loop-i-smaller
-loop-i-smaller c = omega arith
-
-pub loop-i-preserved : goal.loop-i-preserved
-loop-i-preserved c =
-    let l = c.loop-i in
+pub loop-byte-preserved : goal.loop-byte-preserved
+loop-byte-preserved c =
+    let l = c.loop-byte in
     let s = c.args.s.now in
-    let h : l.i < length s = omega arith in
-    let e : c.wide.result ≡ get_or s l.i 0 = c.wide.ensures.0 in (
-      omega arith,
-      grows l.so_far c.wide.result l.i l.invariant.1 c.wide.ensures.1,
-      rw e (sym (step s l.so_far l.i h) ∙ l.invariant.2),
-    )
+    let h : l.byte-index < length s = omega arith in
+    let e : c.from.result ≡ get_or s l.byte-index 0 = search rules in
+    let b : c.from.result < 256 = search rules in
+    (grows l.so_far c.from.result l.byte-index l.invariant.0 b, rw e (sym (step s l.so_far l.byte-index h) ∙ l.invariant.1))
 
 pub returns : goal.returns
 returns c =
-    let l = c.loop-i in
+    let l = c.loop-byte in
     let s = c.args.s.now in
-    let h : length s ≤ l.i = omega arith in
-    let n : l.i ≡ length s = omega arith in
-    (sym (last s l.so_far l.i h) ∙ l.invariant.2, rw n at l.invariant.1)
+    let h : length s ≤ l.byte-index = omega arith in
+    let n : l.byte-index ≡ length s = omega arith in
+    (sym (last s l.so_far l.byte-index h) ∙ l.invariant.1, rw n at l.invariant.0)

@@ -1,9 +1,11 @@
 -- `link_session::session`: an opening that is accepted leaves a whole link. Assumes nothing.
 use Prim.Native.Nat.{zero-le}
-use native.Mathlib.Omega.{arith}
+use mathlib.Core.List.{[], ◌∷◌}
 use Rattle.rule.specs.Settings.{settings}
+use Rattle.std.proofs.Common.{rules}
+use Rattle.opening.specs.Opening.{opened_code}
 use Rattle.link_session.proofs.Kept.{opened_whole}
 use Rattle.link_session.proofs.session.Goals as goal
 
-pub play-end-requires : goal.play-end-requires
-play-end-requires c = record { whole = opened_whole (settings 256 2 1000 c.args.delays.now) 0 c.open-code.result c.args.mem.now c.open-code.new.mem zero-le c.open-code.ensures c.if-code-ne0.false; at_in_bounds = omega (arith, c.opening-at.ensures, c.opening-at.auto.out, c.requires) }
+pub play-requires : goal.play-requires
+play-requires g c = opened_whole (settings 256 2 1000 (5 ∷ [])) 0 (opened_code c.open.result) c.args.mem.now c.open.new.mem zero-le c.open.ensures (search rules)

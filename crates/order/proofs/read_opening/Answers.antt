@@ -9,6 +9,10 @@ use borrow.Author.Tests.{lt-leb, le-leb, ne_eqb}
 use Rattle.digits.specs.Digits.{field}
 use Rattle.numbers.specs.Case.{pick}
 use Rattle.order.specs.Records.{Reading, unread, opening_of, booking_of, compact_of, sweep_of, by_mark, reading, opening_only}
+use Rattle.std.proofs.Common.{rules, Result, Ok, Err, IsErr}
+use Rattle.order.specs.declared.Record.{Record}
+use Rattle.order.specs.declared.Unread.{Unread}
+use Rattle.order.specs.Read.{ReadsOpening}
 use Rattle.order.proofs.Alone.{reads_opening}
 use Rattle.order.proofs.read_opening.Goals as goal
 
@@ -43,14 +47,18 @@ marked : (s : List ℕ) (m k : ℕ) → 2 ≤ length s → m ≡ field 0 2 s →
 unfolding reading
 marked s m k h e f = simp (le-leb _ _ h, sym e, f)
 
-pub returns-then-s-lt2 : goal.returns-then-s-lt2
-returns-then-s-lt2 c = reads_opening _ _ (none _ c.if-s-lt2.true) refl
+short : (s : List ℕ) (r : Result Record Unread) → IsErr r → length s < 2 → ReadsOpening s r
+short s (Ok x) e h = search rules
+short s (Err x) e h = reads_opening s (Err x) (none s h) tt
+
+pub returns-in_err-whole : goal.returns-in_err-whole
+returns-in_err-whole c = short _ _ (search rules) (search rules)
 
 pub returns-in-20300 : goal.returns-in-20300
 unfolding by_mark
 returns-in-20300 c =
     reads_opening _ _ (c.opening.ensures.0 ∙ (sym (opening-alone _)
-    ∙ sym (marked _ _ 0x4F4C c.if-s-lt2.false c.field-mark.ensures.0 c.in-20300.is))) c.opening.ensures.1
+    ∙ sym (marked _ _ 0x4F4C (search rules) c.field-mark.ensures.0 c.in-20300.is))) c.opening.ensures.1
 
 pub returns-in_default : goal.returns-in_default
-returns-in_default c = reads_opening _ _ (sym (marked _ _ _ c.if-s-lt2.false c.field-mark.ensures.0 refl ∙ other-mark _ _ c.in_default.in_default-own.rest.1)) refl
+returns-in_default c = reads_opening _ _ (sym (marked _ _ _ (search rules) c.field-mark.ensures.0 refl ∙ other-mark _ _ c.in_default.in_default-own.rest.1)) tt

@@ -1,36 +1,8 @@
 -- `rising::rise`: on the way up, what has risen so far (Settling). Assumes nothing.
-use mathlib.Core.Path.{refl, ◌∙◌}
+use mathlib.Core.Path.{◌∙◌}
 use native.Mathlib.Omega.{arith}
-use Rattle.turning.proofs.Balancing.{mendable_both}
 use Rattle.rising.proofs.Settling.{both_above, within_above, node_above, rises, rising_settling, risen}
 use Rattle.rising.proofs.rise.Goals as goal
-
-pub loop-i-init : goal.loop-i-init
-loop-i-init c = (omega arith, refl, λ c m0 t d T R. R)
-
-pub offset_bounds-way-i : goal.offset_bounds-way-i
-offset_bounds-way-i c = let R = (c.loop-i.invariant.2 _ _ _ _ c.requires.4 c.requires.5) in omega (arith, R.deep, R.way.short)
-
-pub bounds-way-i : goal.bounds-way-i
-bounds-way-i c = let R = (c.loop-i.invariant.2 _ _ _ _ c.requires.4 c.requires.5) in omega (arith, R.deep, R.way.long)
-
-pub overflow_mul-q : goal.overflow_mul-q
-overflow_mul-q c = omega (arith, (mendable_both _ _ _ (both_above _ _ _ _ _ _ c.loop-i-test.true _ (c.loop-i.invariant.2 _ _ _ _ c.requires.4 c.requires.5))).sums.left.2)
-
-pub overflow_cast-q : goal.overflow_cast-q
-overflow_cast-q c = omega (arith, (mendable_both _ _ _ (both_above _ _ _ _ _ _ c.loop-i-test.true _ (c.loop-i.invariant.2 _ _ _ _ c.requires.4 c.requires.5))).sums.left.2)
-
-pub overflow_sub-i : goal.overflow_sub-i
-overflow_sub-i c = c.loop-i-test.true
-
-pub offset_bounds-way-i-in-loop-i : goal.offset_bounds-way-i-in-loop-i
-offset_bounds-way-i-in-loop-i c = let R = (c.loop-i.invariant.2 _ _ _ _ c.requires.4 c.requires.5) in omega (arith, R.deep, R.way.short)
-
-pub bounds-way-i-in-loop-i : goal.bounds-way-i-in-loop-i
-bounds-way-i-in-loop-i c = let R = (c.loop-i.invariant.2 _ _ _ _ c.requires.4 c.requires.5) in omega (arith, R.deep, R.way.long, c.loop-i-test.true)
-
-pub overflow_cast-s : goal.overflow_cast-s
-overflow_cast-s c = omega (arith, within_above _ _ _ _ _ _ c.loop-i-test.true _ (c.loop-i.invariant.2 _ _ _ _ c.requires.4 c.requires.5))
 
 pub load-was-requires : goal.load-was-requires
 load-was-requires c = within_above _ _ _ _ _ _ c.loop-i-test.true _ (c.loop-i.invariant.2 _ _ _ _ c.requires.4 c.requires.5)
@@ -44,20 +16,11 @@ load-requires c = omega (arith, within_above _ _ _ _ _ _ c.loop-i-test.true _ (c
 pub settle-requires : goal.settle-requires
 settle-requires c = (_, _, _, _, rising_settling _ _ _ _ _ _ _ (rises _ _ _ _ _ _ c.loop-i-test.true _ (c.loop-i.invariant.2 _ _ _ _ c.requires.4 c.requires.5) c.requires.4 _ c.balance.ensures) _ _ (c.load-was.ensures ∙ node_above _ _ _ _ _ _ c.loop-i-test.true _ (c.loop-i.invariant.2 _ _ _ _ c.requires.4 c.requires.5)) c.load.ensures c.if-load-was.true)
 
-pub shape_of-mem-then-load-was : goal.shape_of-mem-then-load-was
-shape_of-mem-then-load-was c = c.settle.auto.mem ∙ (c.balance.auto.mem ∙ c.loop-i.invariant.1)
-
 pub returns-then-load-was : goal.returns-then-load-was
 returns-then-load-was c = λ v m0 t d T R. c.settle.ensures v m0 t d (rising_settling v m0 t d _ _ _ (rises v m0 t d _ _ c.loop-i-test.true _ (c.loop-i.invariant.2 _ _ _ _ T R) T _ c.balance.ensures) _ _ (c.load-was.ensures ∙ node_above v m0 t d _ _ c.loop-i-test.true _ (c.loop-i.invariant.2 _ _ _ _ T R)) c.load.ensures c.if-load-was.true)
 
-pub loop-i-smaller : goal.loop-i-smaller
-loop-i-smaller c = omega (arith, c.loop-i-test.true)
-
 pub loop-i-preserved : goal.loop-i-preserved
 loop-i-preserved c = (omega (arith, c.loop-i.invariant.0), c.balance.auto.mem ∙ c.loop-i.invariant.1, λ v m0 t d T R. rises v m0 t d _ _ c.loop-i-test.true _ (c.loop-i.invariant.2 _ _ _ _ T R) T _ c.balance.ensures)
-
-pub shape_of-mem : goal.shape_of-mem
-shape_of-mem c = c.loop-i.invariant.1
 
 pub returns : goal.returns
 returns c = λ v m0 t d T R. risen v m0 t d _ _ c.loop-i-test.false _ (c.loop-i.invariant.2 v m0 t d T R)

@@ -8,6 +8,3 @@ use Rattle.rising.proofs.settle.Given as goal
 
 abbrev pub invariant-loop-i : goal.invariant-loop-i
 invariant-loop-i l = (l.i ≤ l.from) × (length l.mem ≡ length l.initial.mem) × ((c : Change) (m0 : List ℕ) (t d : ℕ) → Settling c m0 t d l.way l.from l.initial.mem → Settling c m0 t d l.way l.i l.mem)
-
-abbrev pub decreases-loop-i : goal.decreases-loop-i
-decreases-loop-i l = l.i

@@ -24,12 +24,6 @@ near-requires c = omega (arith, low_place _ _ c.args.f _ _ c.requires.0)
 pub overflow_cast-way : goal.overflow_cast-way
 overflow_cast-way c = omega (arith, child_in _ _ c.args.f _ _ c.requires.0 c.requires.1 (not (side c.args.f c.load-right.result)) _ c.near.ensures)
 
-pub overflow_add-way : goal.overflow_add-way
-overflow_add-way c = omega (arith, (room _ _ c.args.f _ _ c.requires.0 c.requires.1).1)
-
-pub offset_bounds-way-depth : goal.offset_bounds-way-depth
-offset_bounds-way-depth c = omega (arith, (room _ _ c.args.f _ _ c.requires.0 c.requires.1).1)
-
 pub bounds-way-depth : goal.bounds-way-depth
 bounds-way-depth c = (room _ _ c.args.f _ _ c.requires.0 c.requires.1).0
 
@@ -38,9 +32,6 @@ near-requires-2 c = omega (arith, low_place _ _ c.args.f _ _ c.requires.0)
 
 pub load-left-requires : goal.load-left-requires
 load-left-requires c = child_in _ _ c.args.f _ _ c.requires.0 c.requires.1 true _ c.near-2.ensures
-
-pub shape_of-way : goal.shape_of-way
-shape_of-way c = length-set c.args.way.now (c.args.depth + 1) c.near.result
 
 pub returns : goal.returns
 returns c =

@@ -1,12 +1,9 @@
 use mathlib.Core.Path.{refl, ap, ◌∙◌}
-use mathlib.Core.Bool.{true, false, not}
-use Prim.Native.Nat.{ℕ, ◌+◌, ◌*◌}
+use mathlib.Core.Bool.{true, false}
+use Prim.Native.Nat.{ℕ, ◌+◌}
 use native.Mathlib.Omega.{arith}
-use lib.Dec.{leb, ltb}
-use lib.ListN.{length-set}
+use lib.Dec.{leb}
 use lib.Seq.{get_or-set_same}
-use Rattle.numbers.specs.Case.{pick}
-use Rattle.rule.specs.Key.{per_tick}
 use Rattle.node.specs.declared.Node.{Node}
 use Rattle.node.specs.Layout.{node_at}
 use Rattle.node.proofs.Reps.{within}
@@ -16,20 +13,8 @@ use Rattle.search.proofs.Treads.{treading_start, noted_place, deeper, treading_n
 use Rattle.search.proofs.Trails.{begun_able, begun_trailed, ahead}
 use Rattle.search.proofs.walk.Goals as goal
 
-pub overflow_add-bound : goal.overflow_add-bound
-overflow_add-bound c = omega (arith, c.requires.2)
-
-pub overflow_mul-bound : goal.overflow_mul-bound
-overflow_mul-bound c = omega (arith, c.requires.2)
-
-pub overflow_mul-behind : goal.overflow_mul-behind
-overflow_mul-behind c = omega (arith, c.requires.3)
-
 pub overflow_cast-way : goal.overflow_cast-way
 overflow_cast-way c = omega (arith, within c.requires.0.1)
-
-pub bounds-way-0 : goal.bounds-way-0
-bounds-way-0 c = omega (arith, c.requires.0.3)
 
 pub load-place-requires : goal.load-place-requires
 load-place-requires c = within c.requires.0.1
@@ -65,27 +50,18 @@ load-x-requires c = child_within true c.loop-place.invariant.0 c.loop-place-test
 pub near-requires-in-loop-place : goal.near-requires-in-loop-place
 near-requires-in-loop-place c = omega (arith, small_here c.loop-place.invariant.0 _ (c.loop-place.invariant.1 _ c.requires.0.1).reached)
 
-pub overflow_add-depth : goal.overflow_add-depth
-overflow_add-depth c = omega (arith, (deeper _ _ _ _ _ _ _ c.loop-place.invariant.2 _ c.loop-place.invariant.0 c.loop-place-test.true _ (c.loop-place.invariant.1 _ c.requires.0.1).reached).1)
-
 pub overflow_add-visits : goal.overflow_add-visits
 overflow_add-visits c = omega (arith, on_few _ _ _ _ _ _ _ _ (c.loop-place.invariant.1 _ c.requires.0.1) c.requires.0.2, c.step_visits-visits.ensures.1)
 
 pub overflow_cast-way-in-loop-place : goal.overflow_cast-way-in-loop-place
-overflow_cast-way-in-loop-place c = omega (arith, child_within (not (ltb c.load-y.result.lo ((c.args.r + 1) * per_tick))) c.loop-place.invariant.0 c.loop-place-test.true _ c.near-in-loop-place.ensures _ (c.loop-place.invariant.1 _ c.requires.0.1).reached)
-
-pub offset_bounds-way-depth : goal.offset_bounds-way-depth
-offset_bounds-way-depth c = omega (arith, (deeper _ _ _ _ _ _ _ c.loop-place.invariant.2 _ c.loop-place.invariant.0 c.loop-place-test.true _ (c.loop-place.invariant.1 _ c.requires.0.1).reached).1)
+overflow_cast-way-in-loop-place c = omega (arith, child_within _ c.loop-place.invariant.0 c.loop-place-test.true _ c.near-in-loop-place.ensures _ (c.loop-place.invariant.1 _ c.requires.0.1).reached)
 
 pub bounds-way-depth : goal.bounds-way-depth
 bounds-way-depth c = (deeper _ _ _ _ _ _ _ c.loop-place.invariant.2 _ c.loop-place.invariant.0 c.loop-place-test.true _ (c.loop-place.invariant.1 _ c.requires.0.1).reached).0
 
-pub follow-t-requires : goal.follow-t-requires
-follow-t-requires c = c.loop-place.invariant.3
-
 pub loop-place-smaller : goal.loop-place-smaller
 loop-place-smaller c =
-    let lower = child_lower (not (ltb c.load-y.result.lo ((c.args.r + 1) * per_tick))) c.loop-place.invariant.0 c.loop-place-test.true _ c.near-in-loop-place.ensures _ (c.loop-place.invariant.1 _ c.requires.0.1).reached in
+    let lower = child_lower _ c.loop-place.invariant.0 c.loop-place-test.true _ c.near-in-loop-place.ensures _ (c.loop-place.invariant.1 _ c.requires.0.1).reached in
     let deep = deeper _ _ _ _ _ _ _ c.loop-place.invariant.2 _ c.loop-place.invariant.0 c.loop-place-test.true _ (c.loop-place.invariant.1 _ c.requires.0.1).reached in
     omega (arith, lower, ap (λ (x : ℕ). (node_at c.args.mem.now x).height) (get_or-set_same c.loop-place.way (c.loop-place.depth + 1) c.near-in-loop-place.result 0 deep.0))
 
@@ -96,7 +72,6 @@ loop-place-preserved c =
     let T = l.invariant.2 in
     let e = l.invariant.0 in
     let h = c.loop-place-test.true in
-    let right = (ltb c.load-y.result.lo ((c.args.r + 1) * per_tick)) in
     let late = leb c.args.f c.load-x.result.top in
     let s = (l.invariant.1 _ c.requires.0.1).reached in
     let y = c.load-y.ensures in
@@ -104,25 +79,16 @@ loop-place-preserved c =
     let x = c.near-in-loop-place.ensures in
     let i = c.step_mark-mark.ensures in
     let deep = (deeper _ _ _ _ _ _ _ T _ e h _ s).0 in (
-      noted_place _ l.way l.depth _ _ deep (place_next _ l.place right _ c.far.ensures _ y _ c.near.ensures _ z _ x _ c.by_turn-place.ensures),
+      noted_place _ l.way l.depth _ _ deep (place_next _ l.place _ _ c.far.ensures _ y _ c.near.ensures _ z _ x _ c.by_turn-place.ensures),
       (λ t g. on_next _ _ _ t _ _ _ _ (l.invariant.1 t g) _ e h deep T.turn _ c.far.ensures _ y _ c.near.ensures _ z _ x _ i _ c.step_visits-visits.ensures.0),
-      treading_next _ _ _ _ _ _ _ T _ e h _ s _ c.near.ensures _ z _ right late x _ i _ (c.by_turn-below.ensures ∙ ap (λ (q : ℕ). pick right q l.below) c.by_turn.ensures),
+      treading_next _ _ _ _ _ _ _ T _ e h _ s _ c.near.ensures _ z _ _ late x _ i _ (rw c.by_turn.ensures at c.by_turn-below.ensures),
       F.able,
       (λ tr a b g o n. F.trails _ (l.invariant.4 tr a b g o n)),
       c.follow-t.auto.far ∙ l.invariant.5,
     )
 
-pub follow_on-e-requires : goal.follow_on-e-requires
-follow_on-e-requires c = c.loop-place.invariant.3
-
 pub overflow_add-result : goal.overflow_add-result
 overflow_add-result c = omega (arith, on_few _ _ _ _ _ _ _ _ (c.loop-place.invariant.1 _ c.requires.0.1) c.requires.0.2)
-
-pub shape_of-way : goal.shape_of-way
-shape_of-way c = c.loop-place.invariant.2.len ∙ length-set c.args.way.now 0 c.args.root
-
-pub shape_of-far : goal.shape_of-far
-shape_of-far c = c.follow_on-e.auto.far ∙ c.loop-place.invariant.5 ∙ c.begin-t.auto.far
 
 pub returns : goal.returns
 returns c = (

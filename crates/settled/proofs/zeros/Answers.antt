@@ -1,27 +1,12 @@
--- `settled::zeros`: the words passed are 0. Assumes nothing.
-use mathlib.Core.Path.{sym, ◌∙◌}
-use mathlib.Core.Logic.{inl, inr}
-use native.Mathlib.Omega.{arith}
-use Rattle.numbers.specs.Case.{case_eq}
+-- `settled::zeros`: `all` over the words from one on is the claim for each of them. Assumes nothing.
+use Rattle.std.proofs.Common.{rules, tests}
+use mathlib.Core.Path.{◌≡◌, refl}
+use Rattle.std.proofs.lemmas.Iterator.{cases_from_all, YieldsList-from_range}
+use Rattle.numbers.specs.Words.{word}
+use Rattle.settled.proofs.Saying.{says_range}
 use Rattle.settled.proofs.zeros.Goals as goal
 
-pub loop-i-init : goal.loop-i-init
-loop-i-init c = (omega arith, omega arith, λ j g h. absurd (omega arith))
-
-pub get-requires : goal.get-requires
-get-requires c = omega arith
-
-pub returns-then-get-ne0 : goal.returns-then-get-ne0
-returns-then-get-ne0 c = λ f. c.if-get-ne0.true (c.get.ensures ∙ f _ c.loop-i.invariant.1 (omega (arith, c.loop-i-test.true)))
-
-pub overflow_add-i : goal.overflow_add-i
-overflow_add-i c = omega arith
-
-pub loop-i-smaller : goal.loop-i-smaller
-loop-i-smaller c = omega arith
-
-pub loop-i-preserved : goal.loop-i-preserved
-loop-i-preserved c = (omega arith, omega arith, λ j g h. elim (case_eq j c.loop-i.i) [ inl y ↦ rw y.0 (sym c.get.ensures ∙ c.if-get-ne0.false) | inr y ↦ c.loop-i.invariant.2 j g (omega (arith, y.0)) ])
-
 pub returns : goal.returns
-returns c = λ j g h. c.loop-i.invariant.2 j g (omega arith)
+returns c = says_range (λ j. word c.args.mem.now j ≡ 0) c.args.from 28 _
+    (cases_from_all _ _ _ (λ j. word c.args.mem.now j ≡ 0) (λ j. word c.args.mem.now j ≡ 0 → ⊥) c.all.ensures.ran (YieldsList-from_range c.args.from 28 _ refl refl)
+    (λ x q k. search (rules, tests)) (λ x q k. search (rules, tests)))

@@ -4,8 +4,5 @@ use mathlib.Core.Path.{refl}
 use Rattle.opening.proofs.Beginning.{headed}
 use Rattle.opening.proofs.single.put_header.Goals as goal
 
-pub put-requires-8 : goal.put-requires-8
-put-requires-8 c = omega (arith, c.requires.0, c.put_delays.ensures.past.len, c.put.auto.mem, c.put-2.auto.mem, c.put-3.auto.mem, c.put-4.auto.mem, c.put-5.auto.mem, c.put-6.auto.mem, c.put-7.auto.mem)
-
 pub returns : goal.returns
 returns c = headed _ _ _ _ _ _ _ _ _ _ _ _ _ _ _ c.requires.0 c.ranges.room.fits c.ranges.leap.fits c.ranges.floor.fits refl (omega (arith, c.requires.1)) c.put_delays.ensures c.put.ensures c.put-2.ensures c.put-3.ensures c.put-4.ensures c.put-5.ensures c.put-6.ensures c.put-7.ensures c.put-8.ensures

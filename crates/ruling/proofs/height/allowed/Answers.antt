@@ -1,5 +1,4 @@
 -- `ruling::height::allowed`: twice the whole part of log2, which a word of 64 bits keeps below 64. Assumes nothing.
-use mathlib.Core.Path.{refl}
 use mathlib.Core.Logic.{inl, inr}
 use Prim.Native.Nat.{ℕ, ◌^◌, ◌<◌}
 use native.Mathlib.Omega.{arith}
@@ -13,6 +12,3 @@ small m r a h = elim (case_le 64 r) [ inl y ↦ absurd (omega (arith, a.low, pow
 
 pub overflow_mul-result : goal.overflow_mul-result
 overflow_mul-result c = omega (arith, small _ _ c.log2_floor.ensures c.ranges.leaves.fits)
-
-pub returns : goal.returns
-returns c = record { whole = c.log2_floor.result; log = c.log2_floor.ensures; twice = refl }
