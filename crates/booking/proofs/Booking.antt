@@ -34,7 +34,7 @@ use Rattle.booking.specs.Book.{Books}
 
 -- ---- what the code's struct tells of the search
 abbrev out_of : Option Taken → Sought
-out_of (Some t) = found t.line t.start t.key t.end
+out_of (Some t) = found t.line t.start t.leaf.key t.leaf.end
 out_of None = nowhere
 
 abbrev seeking_of : Tried → Seeking
@@ -54,7 +54,7 @@ module _ (x : Tried) (y : Seeking) (q : x ≡ taken_of x y) where
   taken_none : x.taken ≡ None → y.out ≡ nowhere
   taken_none h = rw h at (sym (ap (λ (z : Seeking). z.out) taken_seeking))
 
-  taken_some : (t : Taken) → x.taken ≡ Some t → y.out ≡ found t.line t.start t.key t.end
+  taken_some : (t : Taken) → x.taken ≡ Some t → y.out ≡ found t.line t.start t.leaf.key t.leaf.end
   taken_some t h = rw h at (sym (ap (λ (z : Seeking). z.out) taken_seeking))
 
 -- ---- what is done with what is found
@@ -117,7 +117,7 @@ module _ (m : List ℕ) (r l p floor lines code : ℕ) (ef : floor ≡ word m 4)
           books r l p a m m s _ (acts s H ∙ book_none s l (sought r l p s) (taken_none x (sought r l p s) (is s H) u)) (rw (taken_count x (sought r l p s) (is s H)) at ea) (after_none H)
 
       module _ (t : Taken) (u : x.taken ≡ Some t) where
-        at : (s : State) → Holds m s → (sought r l p s).out ≡ found t.line t.start t.key t.end
+        at : (s : State) → Holds m s → (sought r l p s).out ≡ found t.line t.start t.leaf.key t.leaf.end
         at s H = taken_some x (sought r l p s) (is s H) t u
 
         -- the channel is free by the last moment
@@ -125,39 +125,39 @@ module _ (m : List ℕ) (r l p floor lines code : ℕ) (ef : floor ≡ word m 4)
         unfolding sought
         free_low w =
             let s = w.0 in
-            let F : Found s.tree (hold s.settings l) (Fair s.floor (hold s.settings l)) (found t.line t.start t.key t.end) =
+            let F : Found s.tree (hold s.settings l) (Fair s.floor (hold s.settings l)) (found t.line t.start t.leaf.key t.leaf.end) =
             rw (at s w.2) at (booking_found s.settings s.floor s.tree r l p (goes s w.2)) in
             omega (arith, F.0, eh s.settings)
 
         pub finish_low : Whole m → t.start + l ≤ last_moment
         finish_low w = omega (arith, free_low w, hold_least w.0.settings l, eh w.0.settings)
 
-        module _ (b : Bool) (eb : (s : State) → Holds m s → b ≡ overfull s t.key t.end t.start (t.start + h)) where
-          full_is : (s : State) → Holds m s → overfull s t.key t.end t.start (free t.start (hold s.settings l)) ≡ b
+        module _ (b : Bool) (eb : (s : State) → Holds m s → b ≡ overfull s t.leaf.key t.leaf.end t.start (t.start + h)) where
+          full_is : (s : State) → Holds m s → overfull s t.leaf.key t.leaf.end t.start (free t.start (hold s.settings l)) ≡ b
           full_is s H = sym (rw (eh s.settings) at (eb s H))
 
           pub no_room : b ≡ true → (a : Answer) → numbers_of a ≡ seven (refused 8) x.count → (s : State) → Sound s → Holds m s → Books r l p a m m s
           no_room v a ea s W H =
-              books r l p a m m s _ (acts s H ∙ book_full s l (sought r l p s) t.line t.start t.key t.end (at s H) (full_is s H ∙ v))
+              books r l p a m m s _ (acts s H ∙ book_full s l (sought r l p s) t.line t.start t.leaf.key t.leaf.end (at s H) (full_is s H ∙ v))
               (rw (taken_count x (sought r l p s) (is s H)) at ea) (after_none H)
 
           module _ (v : b ≡ false) where
-            splitting : (s : State) → Sound s → Holds m s → Splitting s t.key t.end t.start (t.start + h)
+            splitting : (s : State) → Sound s → Holds m s → Splitting s t.leaf.key t.leaf.end t.start (t.start + h)
             unfolding sought
             splitting s W H =
-                let R = split_room s W r l p t.line t.start t.key t.end (goes s H) (at s H) (full_is s H ∙ v) in
+                let R = split_room s W r l p t.line t.start t.leaf.key t.leaf.end (goes s H) (at s H) (full_is s H ∙ v) in
                 rw (eh s.settings) (record {
                   sound = W;
                   inside = R.0;
                   room = R.2;
                 })
 
-            pub split_pre : Whole m → Splittable t.key t.end t.start (t.start + h) m
+            pub split_pre : Whole m → Splittable t.leaf.key t.leaf.end t.start (t.start + h) m
             split_pre w = (w.0, splitting w.0 w.1 w.2, w.2)
 
-            pub done : (c : ℕ) → c ≡ channel_of t.key → (m' : List ℕ) → Splits t.key t.end t.start (t.start + h) m m' → (s : State) → Sound s → Holds m s
+            pub done : (c : ℕ) → c ≡ channel_of t.leaf.key → (m' : List ℕ) → Splits t.leaf.key t.leaf.end t.start (t.start + h) m m' → (s : State) → Sound s → Holds m s
                 → Books r l p (record { code = 0; channel = c; line = t.line; start = t.start; finish = t.start + l; count = x.count; dropped = 0 }) m m' s
             done c k m' f s W H =
-                books r l p _ m m' s _ (acts s H ∙ book_some s l (sought r l p s) t.line t.start t.key t.end (at s H) (full_is s H ∙ v))
+                books r l p _ m m' s _ (acts s H ∙ book_some s l (sought r l p s) t.line t.start t.leaf.key t.leaf.end (at s H) (full_is s H ∙ v))
                 (rw (k, taken_count x (sought r l p s) (is s H)))
                 (rw (eh s.settings) at (f s (splitting s W H) H))

@@ -36,16 +36,14 @@ pub fn book(mem: &mut [u8], arrival: u64, burst: u64, permitted: u64) -> Result<
     };
     let start = x.start;
     let free = start + hold;
-    if taking::too_many(mem, x.key, x.end, start, free) {
+    if taking::too_many(mem, x.leaf, start, free) {
         let why = Refusal::RoomFull;
         return Err(Refused { why, count });
     }
-    taking::split(
-        mem, &mut way, x.noted, x.key, x.end, start, free, &far, x.deep, x.after,
-    );
+    taking::split(mem, &mut way, x.leaf, start, free, &far, x.ahead);
     Ok(Answer {
         code: 0,
-        channel: ruling::key::channel(x.key),
+        channel: ruling::key::channel(x.leaf.key),
         line: x.line,
         start,
         finish: start + burst,

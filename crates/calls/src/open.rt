@@ -3,7 +3,7 @@ ghost use Rattle.calls.specs.Opens.{Opens, opened_of};
 
 use order::Record;
 use rule::refusal::Unopened;
-use ruling::bounds::MOST_LINES;
+use ruling::bounds::{MOST_LINES, Settings};
 
 #[repr(C)]
 #[derive(Clone, Copy)]
@@ -31,7 +31,13 @@ fn try_open(mem: &mut [u8], room: u64, bytes: &[u8]) -> Result<usize, Unopened>
     }
     let n = lines as usize;
     let delays = order::delays_of(bytes, n);
-    opening::open(mem, room, channels, leap, floor, &delays[..n])?;
+    let settings = Settings {
+        room,
+        channels,
+        leap,
+        delays: &delays[..n],
+    };
+    opening::open(mem, &settings, floor)?;
     Ok(used)
 }
 

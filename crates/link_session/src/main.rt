@@ -7,6 +7,7 @@ ghost use Rattle.link_session.specs.Orders.{InBounds};
 
 use lines::Line;
 use rule::answer::Answer;
+use ruling::bounds::Settings;
 use std::io;
 
 // An order on the link, with what its record would say of it.
@@ -96,7 +97,13 @@ fn play(rt: &impl Print, mem: &mut [u8]) -> io::Result<()>
 
 // The opening: 2 channels, leap 1000, floor 0, one line of 5, room 256. Then the orders, and the voids kept.
 fn session(rt: &impl Print, mem: &mut [u8]) -> io::Result<()> {
-    if let Err(why) = opening::open(mem, 256, 2, 1000, 0, &[5]) {
+    let settings = Settings {
+        room: 256,
+        channels: 2,
+        leap: 1000,
+        delays: &[5],
+    };
+    if let Err(why) = opening::open(mem, &settings, 0) {
         let code = why.into();
         return println!(rt; "{}", Line::Refusal { n: 0, code });
     }

@@ -12,12 +12,19 @@ pub fn get(mem: &[u8], i: usize) -> u64
     u64::from_le_bytes(mem[at..at + 8].try_into().unwrap())
 }
 
-// Makes v word i.
+// Makes v word i. Byte by byte, for the sake of speed: `copy_from_slice` stores the bytes beside the stack first (docs/DECISIONS.md).
 pub fn put(mem: &mut [u8], i: usize, v: u64)
     requires { 8 * i + 8 ≤ length mem.old }
     ensures { mem.new ≡ store mem.old i v }
 {
     let at = 8 * i;
     let bytes = v.to_le_bytes();
-    mem[at..at + 8].copy_from_slice(&bytes);
+    mem[at] = bytes[0];
+    mem[at + 1] = bytes[1];
+    mem[at + 2] = bytes[2];
+    mem[at + 3] = bytes[3];
+    mem[at + 4] = bytes[4];
+    mem[at + 5] = bytes[5];
+    mem[at + 6] = bytes[6];
+    mem[at + 7] = bytes[7];
 }

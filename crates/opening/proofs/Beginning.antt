@@ -11,7 +11,7 @@ use lib.Seq.{get_or-set_same, set-set}
 use Rattle.numbers.specs.Words.{word, store}
 use Rattle.numbers.proofs.WordLaws.{word_other, word_same, byte_other, length_store}
 use Rattle.rule.specs.Moments.{open_end}
-use Rattle.rule.specs.Settings.{most_room, most_lines, settings}
+use Rattle.rule.specs.Settings.{Settings, most_room, most_lines}
 use Rattle.rule.specs.Key.{key_of}
 use Rattle.shape.specs.Tree.{leaf, same}
 use Rattle.shape.specs.PlaceLaws.{same_other, same_most}
@@ -77,16 +77,16 @@ draft_put h m m1 m2 i v li lv e d =
       past = past_then d.past (past_header m1 i v li);
     })
 
-module _ (m m1 m2 m3 m4 m5 m6 m7 m8 m9 : List ℕ) (ds : List ℕ) (room lines leap floor : ℕ) where
-  pub headed : 224 ≤ length m → room < 2 ^ 64 → leap < 2 ^ 64 → floor < 2 ^ 64 → lines ≡ length ds → lines < 2 ^ 64 → Tail 20 ds m m1
-      → m2 ≡ store m1 0 room → m3 ≡ store m2 1 1 → m4 ≡ store m3 2 lines → m5 ≡ store m4 3 leap → m6 ≡ store m5 4 floor
-      → m7 ≡ store m6 5 0 → m8 ≡ store m7 6 1 → m9 ≡ store m8 7 0 → Draft (bare_header room leap floor ds) m m9
+module _ (m m1 m2 m3 m4 m5 m6 m7 m8 m9 : List ℕ) (g : Settings) (lines floor : ℕ) where
+  pub headed : 224 ≤ length m → g.room < 2 ^ 64 → g.leap < 2 ^ 64 → floor < 2 ^ 64 → lines ≡ length g.delays → lines < 2 ^ 64 → Tail 20 g.delays m m1
+      → m2 ≡ store m1 0 g.room → m3 ≡ store m2 1 1 → m4 ≡ store m3 2 lines → m5 ≡ store m4 3 g.leap → m6 ≡ store m5 4 floor
+      → m7 ≡ store m6 5 0 → m8 ≡ store m7 6 1 → m9 ≡ store m8 7 0 → Draft (bare_header g floor) m m9
   headed long lr ll lf el ln t e2 e3 e4 e5 e6 e7 e8 e9 =
-      let d1 = drafted ds m m1 long t in
-      let d2 = draft_put _ m m1 m2 0 room (omega arith) lr e2 d1 in
+      let d1 = drafted g.delays m m1 long t in
+      let d2 = draft_put _ m m1 m2 0 g.room (omega arith) lr e2 d1 in
       let d3 = draft_put _ m m2 m3 1 1 (omega arith) (omega arith) e3 d2 in
       let d4 = draft_put _ m m3 m4 2 lines (omega arith) ln e4 d3 in
-      let d5 = draft_put _ m m4 m5 3 leap (omega arith) ll e5 d4 in
+      let d5 = draft_put _ m m4 m5 3 g.leap (omega arith) ll e5 d4 in
       let d6 = draft_put _ m m5 m6 4 floor (omega arith) lf e6 d5 in
       let d7 = draft_put _ m m6 m7 5 0 (omega arith) (omega arith) e7 d6 in
       let d8 = draft_put _ m m7 m8 6 1 (omega arith) (omega arith) e8 d7 in
@@ -120,21 +120,21 @@ pub laid_end : (m m1 : List ℕ) (n k : ℕ) → k ≤ n → n ≤ k → Laid n 
 laid_end m m1 n k a b L = let e : k ≡ n = omega arith in rw e at L
 
 -- ---- the whole
-module _ (m m1 m2 ds : List ℕ) (room leap floor : ℕ) (long : need room ≤ length m) (small : room ≤ most_room) (d : Draft (bare_header room leap floor ds) m m1)
+module _ (m m1 m2 : List ℕ) (g : Settings) (floor : ℕ) (long : need g.room ≤ length m) (small : g.room ≤ most_room) (d : Draft (bare_header g floor) m m1)
     (key : ℕ) (ek : key ≡ key_of floor 0) (s : Saved root_seat (leaf_node key open_end) m1 m2) where
   abbrev h : List ℕ
-  h = bare_header room leap floor ds
+  h = bare_header g floor
 
-  wider : Past (need room) m m1
+  wider : Past (need g.room) m m1
   wider = record { len = d.past.len; byte = λ b l. d.past.byte b (omega arith) }
 
-  alone : (z : ℕ) → same z 0 + 0 + 0 ≤ below z (places room)
+  alone : (z : ℕ) → same z 0 + 0 + 0 ≤ below z (places g.room)
   alone z = elim (ℕ_discrete z 0) [
-    | yes e ↦ rw e (omega (arith, same_most 0 0, below_is 0 (places room) (omega arith)))
+    | yes e ↦ rw e (omega (arith, same_most 0 0, below_is 0 (places g.room) (omega arith)))
     | no e ↦ omega (arith, same_other z 0 e)
   ]
 
-  part_2 : Part m m2 (places room) h (leaf (key_of floor 0) open_end) []
+  part_2 : Part m m2 (places g.room) h (leaf (key_of floor 0) open_end) []
   unfolding Spares
   part_2 =
       record {
@@ -145,14 +145,14 @@ module _ (m m1 m2 ds : List ℕ) (room leap floor : ℕ) (long : need room ≤ l
         stands = rw (← ek) (leaf_stands (omega (arith, d.past.len)) s);
         spare = tt;
         once = alone;
-        past = past_then wider (past_kept _ m1 m2 (places room) s.kept (λ z l. same_other z root_seat (omega arith)));
+        past = past_then wider (past_kept _ m1 m2 (places g.room) s.kept (λ z l. same_other z root_seat (omega arith)));
       }
 
-  pub lay_pre : (need room ≤ length m2) × (room < 8192) × (word m2 7 < 65536)
+  pub lay_pre : (need g.room ≤ length m2) × (g.room < 8192) × (word m2 7 < 65536)
   lay_pre = omega (arith, part_2.long, part_2.heads 7 (omega arith))
 
-  pub begun : (m3 : List ℕ) → length ds ≤ most_lines → Laid room room m2 m3 → After m m3 (single (settings room 1 leap ds) floor)
+  pub begun : (m3 : List ℕ) → length g.delays ≤ most_lines → Laid g.room g.room m2 m3 → After m m3 (single g floor)
   begun m3 few L =
-      let e : room + 1 - room ≡ 1 = omega arith in
+      let e : g.room + 1 - g.room ≡ 1 = omega arith in
       let P = rw e at (L m h (leaf (key_of floor 0) open_end) part_2 refl (λ z l. refl)) in
-      closed m m3 (single (settings room 1 leap ds) floor) few P
+      closed m m3 (single g floor) few P

@@ -17,8 +17,8 @@ pub record Tail (k : ℕ) (ds : List ℕ) (m m' : List ℕ) : Type 0 where
   pub past : Past 224 m m'
 
 -- the header of one channel with one void, and no spare place
-abbrev pub bare_header : (room leap floor : ℕ) → (delays : List ℕ) → List ℕ
-bare_header room leap floor ds = room ∷ 1 ∷ length ds ∷ leap ∷ floor ∷ 0 ∷ 1 ∷ 0 ∷ padded 20 ds
+abbrev pub bare_header : Settings → (floor : ℕ) → List ℕ
+bare_header g floor = g.room ∷ 1 ∷ length g.delays ∷ g.leap ∷ floor ∷ 0 ∷ 1 ∷ 0 ∷ padded 20 g.delays
 
 -- m' begins with the header h, and past it is m
 pub record Draft (h : List ℕ) (m m' : List ℕ) : Type 0 where

@@ -3,11 +3,12 @@
 
 ghost use Rattle.std.specs.Prelude.{◌≡◌, ◌≤◌};
 ghost use Rattle.rule.specs.Moments.{last_moment};
-ghost use Rattle.rule.specs.Settings.{settings};
+ghost use Rattle.ruling.specs.Settings.{settings_of};
 ghost use Rattle.opening.specs.Opening.{Opens, opened_code};
 ghost use Rattle.opening.specs.Stages.{Narrow, Widens};
 
 use rule::refusal::Unopened;
+use ruling::bounds::Settings;
 
 pub mod single;
 
@@ -27,21 +28,14 @@ fn widen(mem: &mut [u8], channels: u64, floor: u64)
 }
 
 // Opens a link in memory of any content; refused, it is as it was.
-pub fn open(
-    mem: &mut [u8],
-    room: u64,
-    channels: u64,
-    leap: u64,
-    floor: u64,
-    delays: &[u64],
-) -> Result<(), Unopened>
+pub fn open(mem: &mut [u8], settings: &Settings, floor: u64) -> Result<(), Unopened>
     requires { floor ≤ last_moment }
-    ensures { Opens (settings room channels leap delays.now) floor mem.old mem.new (opened_code result) }
+    ensures { Opens (settings_of settings.now) floor mem.old mem.new (opened_code result) }
 {
-    if !ruling::bounds::in_bounds(room, channels, leap, delays) || mem.len() < memory::need(room) {
+    if !settings.in_bounds() || mem.len() < memory::need(settings.room) {
         return Err(Unopened::OutOfBounds);
     }
-    single::open_single(mem, room, leap, floor, delays);
-    widen(mem, channels, floor);
+    single::open_single(mem, settings, floor);
+    widen(mem, settings.channels, floor);
     Ok(())
 }

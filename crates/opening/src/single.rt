@@ -2,7 +2,8 @@
 ghost use Rattle.std.specs.Prelude.{◌≡◌, ◌+◌, ◌≤◌, ◌<◌, length, get_or};
 ghost use Rattle.numbers.specs.Words.{word};
 ghost use Rattle.rule.specs.Moments.{last_moment};
-ghost use Rattle.rule.specs.Settings.{most_lines, most_room, settings};
+ghost use Rattle.rule.specs.Settings.{most_lines, most_room};
+ghost use Rattle.ruling.specs.Settings.{settings_of};
 ghost use Rattle.node.specs.Layout.{most_places};
 ghost use Rattle.state.specs.Open.{single};
 ghost use Rattle.memory.specs.Header.{need};
@@ -10,6 +11,7 @@ ghost use Rattle.memory.specs.Holds.{After};
 ghost use Rattle.opening.specs.Stages.{Tail, bare_header, Draft, Laid};
 
 use numbers::words::put;
+use ruling::bounds::Settings;
 
 // The delay of line i + 1, and 0 where there is none.
 fn delay(delays: &[u64], i: usize) -> u64
@@ -29,15 +31,15 @@ fn put_delays(mem: &mut [u8], delays: &[u64])
 }
 
 // The header of a link with one channel, one void and no spare place yet.
-fn put_header(mem: &mut [u8], room: u64, leap: u64, floor: u64, delays: &[u64])
-    requires { (224 ≤ length mem.old) × (length delays.now ≤ most_lines) }
-    ensures { Draft (bare_header room leap floor delays.now) mem.old mem.new }
+fn put_header(mem: &mut [u8], settings: &Settings, floor: u64)
+    requires { (224 ≤ length mem.old) × (length settings.now.delays.now ≤ most_lines) }
+    ensures { Draft (bare_header (settings_of settings.now) floor) mem.old mem.new }
 {
-    put_delays(mem, delays);
-    put(mem, memory::ROOM, room);
+    put_delays(mem, settings.delays);
+    put(mem, memory::ROOM, settings.room);
     put(mem, memory::CHANNELS, 1);
-    put(mem, memory::LINES, delays.len() as u64);
-    put(mem, memory::LEAP, leap);
+    put(mem, memory::LINES, settings.delays.len() as u64);
+    put(mem, memory::LEAP, settings.leap);
     put(mem, memory::FLOOR, floor);
     put(mem, memory::UNUSED, 0);
     put(mem, memory::KEPT, 1);
@@ -54,12 +56,13 @@ fn lay(mem: &mut [u8], n: u64)
     }
 }
 
-pub fn open_single(mem: &mut [u8], room: u64, leap: u64, floor: u64, delays: &[u64])
-    requires { (need room ≤ length mem.old) × (room ≤ most_room) × (floor ≤ last_moment) × (length delays.now ≤ most_lines) }
-    ensures { After mem.old mem.new (single (settings room 1 leap delays.now) floor) }
+// The link of these settings with one channel in place of theirs.
+pub fn open_single(mem: &mut [u8], settings: &Settings, floor: u64)
+    requires { (need settings.now.room ≤ length mem.old) × (settings.now.room ≤ most_room) × (floor ≤ last_moment) × (length settings.now.delays.now ≤ most_lines) }
+    ensures { After mem.old mem.new (single (settings_of settings.now) floor) }
 {
-    put_header(mem, room, leap, floor, delays);
+    put_header(mem, settings, floor);
     let key = ruling::key::key(floor, 0);
     node::save(mem, node::ROOT, node::leaf(key, rule::moments::OPEN_END));
-    lay(mem, room);
+    lay(mem, settings.room);
 }

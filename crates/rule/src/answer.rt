@@ -61,23 +61,7 @@ impl Answer {
     }
 }
 
-// An answer as its seven numbers, in the order of the statement.
-impl From<Answer> for [u64; 7] {
-    ghost from_gives = { λ answer numbers. numbers ≡ numbers_of answer };
-
-    fn from(answer: Answer) -> [u64; 7] {
-        [
-            answer.code,
-            answer.channel,
-            answer.line,
-            answer.start,
-            answer.finish,
-            answer.count,
-            answer.dropped,
-        ]
-    }
-}
-
+// The answer whose seven numbers these are, in the order of the statement.
 impl From<[u64; 7]> for Answer {
     ghost from_gives = { λ numbers answer. numbers_of answer ≡ numbers };
 

@@ -1,6 +1,8 @@
 // The table of bounds as one test (01, Bounds; rule/specs/Settings.antt). The one place where the code has its numbers.
-ghost use Rattle.std.specs.Prelude.{◌≡◌, suc};
-ghost use Rattle.rule.specs.Settings.{longest, between, rising, settings, in_bounds};
+ghost use Rattle.std.specs.Prelude.{◌≡◌, List, ℕ, suc};
+ghost use Rattle.std.specs.Iterator.{IsFinite, AlwaysYields};
+ghost use Rattle.rule.specs.Settings.{longest, between, rising, in_bounds};
+ghost use Rattle.ruling.specs.Settings.{settings_of};
 
 pub const MOST_CHANNELS: u64 = 64;
 
@@ -12,18 +14,20 @@ pub const MOST_ROOM: u64 = 4096;
 pub const LONGEST: u64 = 4294967295;
 
 // Whether a delay may come after the last one: it is longer, and not too long.
-pub fn rises(last: u64, delay: u64) -> bool
+fn rises(last: u64, delay: u64) -> bool
     ensures { result ≡ between (suc last) longest delay }
 {
     last < delay && delay <= LONGEST
 }
 
 // Whether the delays rise from 1 on, and none is too long.
-fn rising(delays: &[u64]) -> bool
-    ensures { result ≡ rising 0 delays.now }
+pub fn rising<I: Iterator<Item = u64>>(delays: I) -> bool
+    requires can { I.can_next delays }
+    requires ends { IsFinite (I.remaining delays) }
+    ensures { (xs : List ℕ) → AlwaysYields I.next_gives (λ x. x) delays xs → result ≡ rising 0 xs }
 {
     let mut last: u64 = 0;
-    for &delay in delays {
+    for delay in delays {
         if !rises(last, delay) {
             return false;
         }
@@ -32,12 +36,32 @@ fn rising(delays: &[u64]) -> bool
     true
 }
 
-pub fn in_bounds(room: u64, channels: u64, leap: u64, delays: &[u64]) -> bool
-    ensures { result ≡ in_bounds (settings room channels leap delays.now) }
-{
-    (1..=MOST_CHANNELS).contains(&channels)
-        && delays.len() as u64 <= MOST_LINES
-        && rising(delays)
-        && (1..=LONGEST).contains(&leap)
-        && (channels..=MOST_ROOM).contains(&room)
+// What a link is opened with, beside its floor.
+#[derive(Clone, Copy)]
+pub struct Settings<'a> {
+    pub room: u64,
+    pub channels: u64,
+    pub leap: u64,
+    // The delay of each line, the first one's first.
+    pub delays: &'a [u64],
+}
+
+impl Settings<'_> {
+    // Whether the delays rise.
+    fn delays_rise(&self) -> bool
+        ensures { result ≡ rising 0 self.now.delays.now }
+    {
+        rising(self.delays.iter().copied())
+    }
+
+    // Whether each is in its bounds.
+    pub fn in_bounds(&self) -> bool
+        ensures { result ≡ in_bounds (settings_of self.now) }
+    {
+        (1..=MOST_CHANNELS).contains(&self.channels)
+            && self.delays.len() as u64 <= MOST_LINES
+            && self.delays_rise()
+            && (1..=LONGEST).contains(&self.leap)
+            && (self.channels..=MOST_ROOM).contains(&self.room)
+    }
 }

@@ -18,6 +18,7 @@ use Rattle.node.specs.Rep.{Stands}
 use Rattle.node.specs.Paths.{longest_way, Reaches}
 use Rattle.search.specs.declared.Descent.{Descent}
 use Rattle.search.specs.declared.Way.{Way}
+use Rattle.search.specs.declared.Foreseen.{Foreseen}
 use Rattle.search.specs.declared.Found.{Found}
 use Rattle.search.specs.Search.{Descended, Beside, Marks, Walked, found_of, Notes}
 use Rattle.search.specs.Trails.{Ahead}
@@ -44,13 +45,13 @@ module _ (m : List ℕ) (root r f : ℕ) (ws : List ℕ) (w : Way) (k : (t : Tre
     plain : length (path r t) + length (passed r t) + 0 ≡ w.visits
     plain = omega (arith, (k t s).counts)
 
-    pub answer_leaf : b ≡ true → (i : ℕ) (x : Found) → x ≡ record { leaf = Some (record { key = n.lo; end = n.top; noted = i }); visits = w.visits; deep = w.deep; after = w.after }
+    pub answer_leaf : b ≡ true → (i : ℕ) (x : Found) → x ≡ record { leaf = Some (record { key = n.lo; end = n.top; noted = i }); visits = w.visits; ahead = w.ahead }
         → x ≡ found_of x (published r f t)
     answer_leaf h i x ex = let q = rw h at fitting_is in rw (ex, q, plain)
 
     pub answer_deep : b ≡ false → (w.mark ≡ 0 → ⊥)
         → (d : Descent) → ((x : Tree) → Stands m (get_or ws w.mark 0 - 4) x → Descended m f x d) → (y : Node) → y ≡ node_at m d.seat
-        → (i : ℕ) (x : Found) → x ≡ record { leaf = Some (record { key = y.lo; end = y.top; noted = i }); visits = w.visits + d.visits; deep = w.deep; after = w.after }
+        → (i : ℕ) (x : Found) → x ≡ record { leaf = Some (record { key = y.lo; end = y.top; noted = i }); visits = w.visits + d.visits; ahead = w.ahead }
         → x ≡ found_of x (published r f t)
     answer_deep h g d j y ey i x ex =
         let q = rw h at fitting_is in
@@ -61,9 +62,9 @@ module _ (m : List ℕ) (root r f : ℕ) (ws : List ℕ) (w : Way) (k : (t : Tre
         rw (ex, q, M.is, u, v)
 
 -- the notes of an answer are the walk's
-pub notes_found : (m : List ℕ) (root : ℕ) (ws : List ℕ) (l e v i d a : ℕ) → Reaches m root i ws l e
-    → (x : Found) → x ≡ record { leaf = Some (record { key = l; end = e; noted = i }); visits = v; deep = d; after = a } → Notes m root ws x
-notes_found m root ws l e v i d a g x ex = rw ex g
+pub notes_found : (m : List ℕ) (root : ℕ) (ws : List ℕ) (l e v i : ℕ) (a : Foreseen) → Reaches m root i ws l e
+    → (x : Found) → x ≡ record { leaf = Some (record { key = l; end = e; noted = i }); visits = v; ahead = a } → Notes m root ws x
+notes_found m root ws l e v i a g x ex = rw ex g
 
-pub still_ahead : (m : List ℕ) (root b : ℕ) (ws : List ℕ) (x y : Found) → x ≡ y → Ahead m root b y.deep y.after ws → Ahead m root b x.deep x.after ws
+pub still_ahead : (m : List ℕ) (root b : ℕ) (ws : List ℕ) (x y : Found) → x ≡ y → Ahead m root b y.ahead.deep y.ahead.after ws → Ahead m root b x.ahead.deep x.ahead.after ws
 still_ahead m root b ws x y e g = rw e g

@@ -70,71 +70,71 @@ record Gone (m : List ℕ) (x a : ℕ) : Type 0 where
 module _ (m : List ℕ) (b : ℕ) (ws : List ℕ) (t : Trail) (D : Followable m ws t) where
   -- v is the node on the right, x the seat gone to, and a the next `after`
   module _ (h : t.place ≡ 0 → ⊥) (p : ℕ) (ep : p ≡ near_of false t.place) (v : Node) (ev : v ≡ node_at m p)
-      (x : ℕ) (ex : x ≡ near_of (not (leb v.lo b)) t.place) (a : ℕ) (ea : a ≡ pick (leb v.lo b) t.after v.lo) where
+      (x : ℕ) (ex : x ≡ near_of (not (leb v.lo b)) t.place) (a : ℕ) (ea : a ≡ pick (leb v.lo b) t.ahead.after v.lo) where
     split : (node_at m (t.place + 4)).lo ≡ v.lo
     split = sym (ap (λ (n : Node). n.lo) (ev ∙ ap (node_at m) ep))
 
     -- the seat noted last
     abbrev w : ℕ
-    w = get_or ws t.deep 0
+    w = get_or ws t.ahead.deep 0
 
     leads_to : (k : ℕ) (s : Bool) → ltb k (node_at m (t.place + 4)).lo ≡ s → x ≡ near_of s t.place → Leads m k w x
     leads_to k s c e = record { inner = high_here D.place h D.tree D.stands; to = rw (← D.place, c) e }
 
-    deep : t.deep + 1 < length ws
+    deep : t.ahead.deep + 1 < length ws
     deep = (room _ _ 0 _ _ D h).0
 
     module _ (root : ℕ) (T : Trailing m root b ws t) where
       I : Inner m t.place T.here
       I = inner_here D.place h T.here T.stands
 
-      O : Ord T.from t.after (node I.label I.left I.right)
+      O : Ord T.from t.ahead.after (node I.label I.left I.right)
       O = rw I.is at T.ordered
 
       least : v.lo ≡ lo I.right
       least = lo_here (ev ∙ ap (node_at m) ep) (I.child false)
 
       -- the keys that are left lead here, and were left before
-      leads_here : (k : ℕ) → b ≤ k → k < a → Leads m k w x × (k < t.after)
+      leads_here : (k : ℕ) → b ≤ k → k < a → Leads m k w x × (k < t.ahead.after)
       leads_here k g l = elim (case_le v.lo b) [
         | inl y ↦ let s : x ≡ near_of false t.place = rw y.1 at ex in
-            let c : a ≡ t.after = rw y.1 at ea in
+            let c : a ≡ t.ahead.after = rw y.1 at ea in
             (leads_to k false (le-ltb k (node_at m (t.place + 4)).lo (omega (arith, split, y.0))) s, omega arith)
         | inr y ↦ let s : x ≡ near_of true t.place = rw y.1 at ex in
             let c : a ≡ v.lo = rw y.1 at ea in
-            (leads_to k true (lt-ltb k (node_at m (t.place + 4)).lo (omega (arith, split))) s, omega (arith, least, lo_in (lo I.right) t.after I.right O.1))
+            (leads_to k true (lt-ltb k (node_at m (t.place + 4)).lo (omega (arith, split))) s, omega (arith, least, lo_in (lo I.right) t.ahead.after I.right O.1))
       ]
 
-      leads_next : (k : ℕ) → b ≤ k → k < a → (i : ℕ) → i < t.deep + 1 → Leads m k (get_or (set ws (t.deep + 1) x) i 0) (get_or (set ws (t.deep + 1) x) (suc i) 0)
-      leads_next k g l i j = elim (ℕ_discrete i t.deep) [
-        | yes e ↦ rw (e, noted ws t.deep x t.deep (omega arith), noted_here ws t.deep x deep) (leads_here k g l).0
-        | no n ↦ rw (noted ws t.deep x i (omega arith), noted ws t.deep x (suc i) (omega arith)) (T.leads k g (leads_here k g l).1 i (omega arith))
+      leads_next : (k : ℕ) → b ≤ k → k < a → (i : ℕ) → i < t.ahead.deep + 1 → Leads m k (get_or (set ws (t.ahead.deep + 1) x) i 0) (get_or (set ws (t.ahead.deep + 1) x) (suc i) 0)
+      leads_next k g l i j = elim (ℕ_discrete i t.ahead.deep) [
+        | yes e ↦ rw (e, noted ws t.ahead.deep x t.ahead.deep (omega arith), noted_here ws t.ahead.deep x deep) (leads_here k g l).0
+        | no n ↦ rw (noted ws t.ahead.deep x i (omega arith), noted ws t.ahead.deep x (suc i) (omega arith)) (T.leads k g (leads_here k g l).1 i (omega arith))
       ]
 
       gone : Gone m x a
       gone = elim (case_le v.lo b) [
         | inl y ↦ let s : x ≡ near_of false t.place = rw y.1 at ex in
-            let c : a ≡ t.after = rw y.1 at ea in
+            let c : a ≡ t.ahead.after = rw y.1 at ea in
             record { tree = I.right; from = lo I.right; stands = subst (λ (y : ℕ). Stands m y I.right) (sym s) (I.child false); ordered = subst (λ (y : ℕ). Ord (lo I.right) y I.right) (sym c) O.1 }
         | inr y ↦ let s : x ≡ near_of true t.place = rw y.1 at ex in
             let c : a ≡ lo I.right = (rw y.1 at ea) ∙ least in
             record { tree = I.left; from = T.from; stands = subst (λ (y : ℕ). Stands m y I.left) (sym s) (I.child true); ordered = subst (λ (y : ℕ). Ord T.from y I.left) (sym c) O.0 }
       ]
 
-      trails_next : (z : ℕ) → Trailing m root b (set ws (t.deep + 1) x) (record { place = z; deep = t.deep + 1; after = a })
+      trails_next : (z : ℕ) → Trailing m root b (set ws (t.ahead.deep + 1) x) (record { place = z; ahead = record { deep = t.ahead.deep + 1; after = a } })
       trails_next z =
           record {
             here = gone.tree;
             from = gone.from;
-            stands = rw (get_or-set_same ws (t.deep + 1) x 0 deep) gone.stands;
+            stands = rw (get_or-set_same ws (t.ahead.deep + 1) x 0 deep) gone.stands;
             ordered = gone.ordered;
-            first = noted ws t.deep x 0 (omega arith) ∙ T.first;
+            first = noted ws t.ahead.deep x 0 (omega arith) ∙ T.first;
             leads = leads_next;
           }
 
     -- u is the node on the left
     pub follows_next : (l : ℕ) → l ≡ near_of true t.place → (u : Node) → u ≡ node_at m l → (z : ℕ) → z ≡ pick (leb v.lo b) v.place u.place
-        → Follows m b t (record { place = z; deep = t.deep + 1; after = a }) ws (set ws (t.deep + 1) x)
+        → Follows m b t (record { place = z; ahead = record { deep = t.ahead.deep + 1; after = a } }) ws (set ws (t.ahead.deep + 1) x)
     follows_next l el u eu z ez =
         record {
           able = at_descendable _ _ 0 _ _ D h (leb v.lo b) x ex p ep v ev l el u eu z ez;
@@ -143,7 +143,7 @@ module _ (m : List ℕ) (b : ℕ) (ws : List ℕ) (t : Trail) (D : Followable m 
         }
 
 -- ---- at the leaf
-pub ahead : (m : List ℕ) (root b : ℕ) (ws ws' : List ℕ) (t u : Trail) → Trailed m root b ws t → FollowsOn m b t u ws ws' → Ahead m root b u.deep u.after ws'
+pub ahead : (m : List ℕ) (root b : ℕ) (ws ws' : List ℕ) (t u : Trail) → Trailed m root b ws t → FollowsOn m b t u ws ws' → Ahead m root b u.ahead.deep u.ahead.after ws'
 ahead m root b ws ws' t u X F tr a c s o l k g h =
     let T = F.trails root (X tr a c s o l) in
     let D = F.able in

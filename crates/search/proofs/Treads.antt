@@ -18,6 +18,7 @@ use Rattle.node.proofs.Reps.{within, tall}
 use Rattle.node.proofs.Seats.{near_of}
 use Rattle.node.proofs.Paths.{noted, down_start, down_next}
 use Rattle.search.specs.declared.Descent.{Descent}
+use Rattle.search.specs.declared.Foreseen.{Foreseen}
 use Rattle.search.specs.declared.Way.{Way}
 use Rattle.search.specs.Search.{Descendable, Searchable, Descended, Prolonged, Walked, Under, Trodden}
 use Rattle.search.proofs.Look.{inner_here, high_here, child_lower, child_is}
@@ -96,8 +97,8 @@ module _ (m : List ℕ) (root : ℕ) (ws0 ws : List ℕ) (d j b : ℕ) (T : Trea
               let c = child_is (not right) x u I.label ex I.at in
               record { inner = high_here e h t s; is = c.0 ∙ e; seat = c.1 }
 
-  pub trodden : (v g a : ℕ) → Trodden m root ws (record { depth = d; mark = j; below = b; visits = v; deep = g; after = a })
-  trodden v g a = record { long = T.long; short = omega (arith, T.short); down = T.down; turn = T.turn; under = T.under }
+  pub trodden : (v : ℕ) (a : Foreseen) → Trodden m root ws (record { depth = d; mark = j; below = b; visits = v; ahead = a })
+  trodden v a = record { long = T.long; short = omega (arith, T.short); down = T.down; turn = T.turn; under = T.under }
 
 -- ---- what is found
 -- a way with the sibling of its node j steps down noted there

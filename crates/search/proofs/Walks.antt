@@ -21,6 +21,7 @@ use Rattle.node.specs.Rep.{Stands}
 use Rattle.node.specs.Paths.{longest_way}
 use Rattle.node.proofs.Paths.{noted}
 use Rattle.node.proofs.Seats.{near_of}
+use Rattle.search.specs.declared.Foreseen.{Foreseen}
 use Rattle.search.specs.Search.{Marks, Walked}
 use Rattle.search.proofs.Look.{Inner, leaf_here, inner_here, top_here, lo_here}
 
@@ -108,8 +109,8 @@ module _ (m : List ℕ) (r f : ℕ) (t : Tree) (ws : List ℕ) (d j v : ℕ) (o 
       ]
 
     -- at the leaf
-    pub on_leaf : u ≡ 0 → (b g a : ℕ) → Walked m r f t ws (record { depth = d; mark = j; below = b; visits = v + 1; deep = g; after = a })
-    on_leaf h b g a =
+    pub on_leaf : u ≡ 0 → (b : ℕ) (a : Foreseen) → Walked m r f t ws (record { depth = d; mark = j; below = b; visits = v + 1; ahead = a })
+    on_leaf h b a =
         let l = leaf_here e h o.here o.reached in
         let w : OnWay r f t (leaf (node_at m (get_or ws d 0)).lo (node_at m (get_or ws d 0)).top) o.mark v = rw l at o.way in
         record {

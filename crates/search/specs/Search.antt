@@ -90,8 +90,8 @@ noted_of None = 0
 
 -- the answer of a search as the code gives it, with the ways noted as in y
 abbrev pub found_at : (y : Found) → (visits : ℕ) → Out → Found
-found_at y n none = record { leaf = None; visits = n; deep = y.deep; after = y.after }
-found_at y n (some k e) = record { leaf = Some (record { key = k; end = e; noted = noted_of y.leaf }); visits = n; deep = y.deep; after = y.after }
+found_at y n none = record { leaf = None; visits = n; ahead = y.ahead }
+found_at y n (some k e) = record { leaf = Some (record { key = k; end = e; noted = noted_of y.leaf }); visits = n; ahead = y.ahead }
 
 abbrev pub found_of : (y : Found) → Result → Found
 found_of y z = found_at y z.visits z.out

@@ -13,27 +13,27 @@ first_after = 18446744073709551615
 
 -- some tree stands at the seat noted last, and its ways down fit the list
 abbrev pub Followable : (m ws : List ℕ) → Trail → Type 0
-Followable m ws t = Descendable m t.place ws t.deep
+Followable m ws t = Descendable m t.place ws t.ahead.deep
 
 -- the seats noted go down from the root as every key from b on and below `after` leads, and the keys below the last of them are lower
 -- than `after`
 pub record Trailing (m : List ℕ) (root b : ℕ) (ws : List ℕ) (t : Trail) : Type 0 where
   pub here : Tree
   pub from : ℕ
-  pub stands : Stands m (get_or ws t.deep 0) here
-  pub ordered : Ord from t.after here
+  pub stands : Stands m (get_or ws t.ahead.deep 0) here
+  pub ordered : Ord from t.ahead.after here
   pub first : get_or ws 0 0 ≡ root
-  pub leads : (k : ℕ) → b ≤ k → k < t.after → (i : ℕ) → i < t.deep → Leads m k (get_or ws i 0) (get_or ws (suc i) 0)
+  pub leads : (k : ℕ) → b ≤ k → k < t.ahead.after → (i : ℕ) → i < t.ahead.deep → Leads m k (get_or ws i 0) (get_or ws (suc i) 0)
 
 -- t is at the root
 pub record Begun (root place : ℕ) (t : Trail) (ws ws' : List ℕ) : Type 0 where
-  pub trail : t ≡ record { place = place; deep = 0; after = first_after }
+  pub trail : t ≡ record { place = place; ahead = record { deep = 0; after = first_after } }
   pub noted : ws' ≡ set ws 0 root
 
 -- u is a step on from t, if that is not at a leaf
 pub record Follows (m : List ℕ) (b : ℕ) (t u : Trail) (ws ws' : List ℕ) : Type 0 where
   pub able : Followable m ws' u
-  pub lower : (t.place ≡ 0 → ⊥) → (node_at m (get_or ws' u.deep 0)).height < (node_at m (get_or ws t.deep 0)).height
+  pub lower : (t.place ≡ 0 → ⊥) → (node_at m (get_or ws' u.ahead.deep 0)).height < (node_at m (get_or ws t.ahead.deep 0)).height
   pub trails : (root : ℕ) → Trailing m root b ws t → Trailing m root b ws' u
 
 -- u is where the way from t ends

@@ -20,12 +20,19 @@ pub struct Descent {
     pub visits: u64,
 }
 
-// A way of keys, on its way down: the place reached, how far down that is, and the least key that it turned left at.
+// How far down the way of the keys from f on is noted, and the first key that it is not the way of: the least that it turned
+// left at.
+#[derive(Clone, Copy)]
+pub struct Foreseen {
+    pub deep: usize,
+    pub after: u64,
+}
+
+// That way, on its way down, and the place reached.
 #[derive(Drop)]
 struct Trail {
     place: u64,
-    deep: usize,
-    after: u64,
+    ahead: Foreseen,
 }
 
 // Where the walk from the root ends: the leaf reached is so many steps down; the deepest marked node is the left sibling of
@@ -36,8 +43,7 @@ struct Way {
     mark: usize,
     below: u64,
     visits: u64,
-    deep: usize,
-    after: u64,
+    ahead: Foreseen,
 }
 
 // The leaf where the search ends: its key and end, and how far down the way to it is noted.
@@ -48,14 +54,12 @@ pub struct Leaf {
     pub noted: usize,
 }
 
-// Where the search ends: at a leaf, or at none, and its visits. How far down the way of the keys from f on is noted, and the
-// first key that it is not the way of.
+// Where the search ends: at a leaf, or at none, and its visits. Where the second way ends.
 #[derive(Clone, Copy)]
 pub struct Found {
     pub leaf: Option<Leaf>,
     pub visits: u64,
-    pub deep: usize,
-    pub after: u64,
+    pub ahead: Foreseen,
 }
 
 // The visits of a step down: one, or two where both children are looked at.
@@ -153,8 +157,10 @@ fn begin(root: usize, place: u64, far: &mut [u16]) -> Trail
     far[0] = root as u16;
     Trail {
         place,
-        deep: 0,
-        after: u64::MAX,
+        ahead: Foreseen {
+            deep: 0,
+            after: u64::MAX,
+        },
     }
 }
 
@@ -169,13 +175,15 @@ fn follow(mem: &[u8], behind: u64, far: &mut [u16], t: Trail) -> Trail
     }
     let v = node::load(mem, node::far(true, t.place));
     let turn = v.lo <= behind;
-    let deep = t.deep + 1;
+    let deep = t.ahead.deep + 1;
     far[deep] = node::near(!turn, t.place) as u16;
     let u = node::load(mem, node::near(true, t.place));
     Trail {
         place: by_turn(turn, v.place, u.place),
-        deep,
-        after: by_turn(turn, t.after, v.lo),
+        ahead: Foreseen {
+            deep,
+            after: by_turn(turn, t.ahead.after, v.lo),
+        },
     }
 }
 
@@ -197,7 +205,7 @@ fn follow_on(mem: &[u8], behind: u64, far: &mut [u16], t: Trail) -> Trail
 // The way of the keys from f on is followed beside it, and noted in `far`: neither waits for the other.
 fn walk(mem: &[u8], root: usize, r: u64, f: u64, way: &mut [u16], far: &mut [u16]) -> Way
     requires { Searchable mem.now root way.old × (longest_way ≤ length far.old) × (r ≤ last_moment) × (f ≤ last_moment) }
-    ensures { ((t : Tree) → Stands mem.now root t → Walked mem.now r f t way.new result) × Trodden mem.now root way.new result × Ahead mem.now root (f * per_tick) result.deep result.after far.new }
+    ensures { ((t : Tree) → Stands mem.now root t → Walked mem.now r f t way.new result) × Trodden mem.now root way.new result × Ahead mem.now root (f * per_tick) result.ahead.deep result.ahead.after far.new }
 {
     let bound = (r + 1) * ruling::key::PER_TICK;
     let behind = f * ruling::key::PER_TICK;
@@ -227,14 +235,13 @@ fn walk(mem: &[u8], root: usize, r: u64, f: u64, way: &mut [u16], far: &mut [u16
         mark,
         below,
         visits: visits + 1,
-        deep: e.deep,
-        after: e.after,
+        ahead: e.ahead,
     }
 }
 
 // The answer at the leaf with the node n.
-fn found_at(n: node::Node, visits: u64, noted: usize, w: Way) -> Found
-    ensures { result ≡ record { leaf = Some (record { key = n.lo; end = n.top; noted = noted }); visits = visits; deep = w.deep; after = w.after } }
+fn found_at(n: node::Node, visits: u64, noted: usize, ahead: Foreseen) -> Found
+    ensures { result ≡ record { leaf = Some (record { key = n.lo; end = n.top; noted = noted }); visits = visits; ahead = ahead } }
 {
     let leaf = Leaf {
         key: n.lo,
@@ -244,23 +251,22 @@ fn found_at(n: node::Node, visits: u64, noted: usize, w: Way) -> Found
     Found {
         leaf: Some(leaf),
         visits,
-        deep: w.deep,
-        after: w.after,
+        ahead,
     }
 }
 
 // The leaf that fits r and f with the greatest key, where one fits, and the visits of 01's search for it. The way to it is
-// noted; and in `far` that of every key from f on and below `after`.
+// noted; and in `far` that of every key from f on and below `ahead.after`.
 pub fn search(mem: &[u8], root: usize, r: u64, f: u64, way: &mut [u16], far: &mut [u16]) -> Found
     requires searchable { Searchable mem.now root way.old }
     requires longest_way_in_bounds { (longest_way ≤ length far.old) × (r ≤ last_moment) × (f ≤ last_moment) }
-    ensures { ((t : Tree) → Stands mem.now root t → result ≡ found_of result (published r f t)) × Notes mem.now root way.new result × Ahead mem.now root (f * per_tick) result.deep result.after far.new }
+    ensures { ((t : Tree) → Stands mem.now root t → result ≡ found_of result (published r f t)) × Notes mem.now root way.new result × Ahead mem.now root (f * per_tick) result.ahead.deep result.ahead.after far.new }
 {
     let w = walk(mem, root, r, f, way, far);
     let depth = w.depth;
     let n = node::load(mem, way[depth] as usize);
     if rule::fit::fits(ruling::key::start(n.lo), n.top, r, f) {
-        return found_at(n, w.visits, depth, w);
+        return found_at(n, w.visits, depth, w.ahead);
     }
     let mark = w.mark;
     if mark != 0 {
@@ -269,12 +275,11 @@ pub fn search(mem: &[u8], root: usize, r: u64, f: u64, way: &mut [u16], far: &mu
         let mut noted = mark;
         let d = descend(mem, w.below, f, way, mark, &mut noted);
         let b = node::load(mem, d.seat);
-        return found_at(b, w.visits + d.visits, noted, w);
+        return found_at(b, w.visits + d.visits, noted, w.ahead);
     }
     Found {
         leaf: None,
         visits: w.visits,
-        deep: w.deep,
-        after: w.after,
+        ahead: w.ahead,
     }
 }

@@ -59,7 +59,7 @@ tried_low r h p i d = go (bit p i)
 -- ---- one start
 module _ (x : Found) (z : Result) (q : x ≡ found_of x z) (n : ℕ) (a : Start) (y : Seeking) where
   fit : (l : Leaf) → x.leaf ≡ Some l
-      → let t : Tried = record { taken = Some (record { line = a.line; start = a.moment; key = l.key; end = l.end; noted = l.noted; deep = x.deep; after = x.after }); count = n + x.visits } in
+      → let t : Tried = record { taken = Some (record { line = a.line; start = a.moment; leaf = l; ahead = x.ahead }); count = n + x.visits } in
       t ≡ taken_of t (after n (try_next a z.out z.visits y))
   fit l h = rw (found_some x x z q l h, found_visits x x z q)
 
@@ -94,8 +94,8 @@ module _ (m : List ℕ) (r h p : ℕ) where
       (w.0.tree, w.2.stands, height_few w.0.tree w.1.balanced (omega (arith, w.1.within, (in_bounds_lem w.0.settings w.1.bounds).room)), l)
 
   -- the other way, in a link whose keys rise
-  pub foresees : Whole m → (us : List ℕ) (b : ℕ) (x : Found) → Ahead m root_seat ((b + h) * per_tick) x.deep x.after us
-      → Serves m root_seat ((b + h) * per_tick) x.after x.deep us
+  pub foresees : Whole m → (us : List ℕ) (b : ℕ) (x : Found) → Ahead m root_seat ((b + h) * per_tick) x.ahead.deep x.ahead.after us
+      → Serves m root_seat ((b + h) * per_tick) x.ahead.after x.ahead.deep us
   foresees w us b x A = A w.0.tree 0 most_key w.2.stands w.1.ordered (omega arith)
 
   -- x is what is found at the start b
@@ -164,7 +164,7 @@ module _ (m : List ℕ) (r h p : ℕ) where
               rw q at (A.rest s H)
 
           pub taken_here : (l : Leaf) → x.leaf ≡ Some l → (s : State) → Holds m s
-              → let t : Tried = record { taken = Some (record { line = i; start = b; key = l.key; end = l.end; noted = l.noted; deep = x.deep; after = x.after }); count = count + x.visits } in
+              → let t : Tried = record { taken = Some (record { line = i; start = b; leaf = l; ahead = x.ahead }); count = count + x.visits } in
               t ≡ taken_of t (whole s)
           taken_here l y s H = rw (here s H) (fit x (published b (b + h) s.tree) (is s H b x g) count (record { line = i; moment = b }) (left s (suc i)) l y)
 

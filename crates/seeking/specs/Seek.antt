@@ -30,22 +30,22 @@ StartsOn i r h m o mem =
 
 -- how far down what is noted for what is taken, and the first key beyond (0 where nothing is)
 abbrev pub noted_of : Option Taken → ℕ
-noted_of (Some t) = t.noted
+noted_of (Some t) = t.leaf.noted
 noted_of None = 0
 
 abbrev pub deep_of : Option Taken → ℕ
-deep_of (Some t) = t.deep
+deep_of (Some t) = t.ahead.deep
 deep_of None = 0
 
 abbrev pub after_of : Option Taken → ℕ
-after_of (Some t) = t.after
+after_of (Some t) = t.ahead.after
 after_of None = 0
 
 -- the code's struct for what the search over the starts came to; what is noted is told beside it
 abbrev pub taken_at : (x : Tried) → (count : ℕ) → Sought → Tried
 taken_at x n nowhere = record { taken = None; count = n }
 taken_at x n (found i r k e) =
-    record { taken = Some (record { line = i; start = r; key = k; end = e; noted = noted_of x.taken; deep = deep_of x.taken; after = after_of x.taken }); count = n }
+    record { taken = Some (record { line = i; start = r; leaf = record { key = k; end = e; noted = noted_of x.taken }; ahead = record { deep = deep_of x.taken; after = after_of x.taken } }); count = n }
 
 abbrev pub taken_of : (x : Tried) → Seeking → Tried
 taken_of x y = taken_at x y.count y.out
@@ -55,8 +55,8 @@ Seeks r h m x mem = (s : State) → Holds mem s → x ≡ taken_of x (seek s.tre
 
 -- what was taken is where the way noted leads
 abbrev pub Points : (m ws : List ℕ) → Tried → Type 0
-Points m ws x = IfSome x.taken (λ t. Pointed m ws t.noted t.key t.end)
+Points m ws x = IfSome x.taken (λ t. Pointed m ws t.leaf.noted t.leaf.key t.leaf.end)
 
 -- and the other way is that of every key from the burst's end on and below `after`
 abbrev pub Foresees : (h : ℕ) → (m ws : List ℕ) → Tried → Type 0
-Foresees h m ws x = IfSome x.taken (λ t. Serves m root_seat ((t.start + h) * per_tick) t.after t.deep ws)
+Foresees h m ws x = IfSome x.taken (λ t. Serves m root_seat ((t.start + h) * per_tick) t.ahead.after t.ahead.deep ws)

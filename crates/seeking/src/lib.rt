@@ -11,18 +11,16 @@ ghost use Rattle.memory.specs.Holds.{Whole};
 ghost use Rattle.seeking.specs.Seek.{StartsOn, Seeks, Points, Foresees};
 
 use numbers::words::get;
+use search::{Foreseen, Leaf};
 
-// What is taken: the line, the start, the void's key and end; how far down the way to the void is noted; and how far that of
-// the keys from the burst's end on and below `after`.
+// What is taken: the line, the start, the void, as the search found it; and what is noted of the way of the keys from the burst's
+// end on.
 #[derive(Clone, Copy)]
 pub struct Taken {
     pub line: u64,
     pub start: u64,
-    pub key: u64,
-    pub end: u64,
-    pub noted: usize,
-    pub deep: usize,
-    pub after: u64,
+    pub leaf: Leaf,
+    pub ahead: Foreseen,
 }
 
 // What trying the starts came to: what is taken, or nothing, and the visits.
@@ -73,11 +71,8 @@ pub fn seek(
                 let taken = Taken {
                     line: line as u64,
                     start,
-                    key: leaf.key,
-                    end: leaf.end,
-                    noted: leaf.noted,
-                    deep: x.deep,
-                    after: x.after,
+                    leaf,
+                    ahead: x.ahead,
                 };
                 return Tried {
                     taken: Some(taken),

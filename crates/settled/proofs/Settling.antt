@@ -1,13 +1,12 @@
--- The header's delays as a list, and whether they rise.
-use mathlib.Core.Path.{◌≡◌, refl, ap, ◌∙◌}
-use mathlib.Core.Bool.{true, false}
+-- The header's delays as a list.
+use mathlib.Core.Path.{◌≡◌, refl, ap}
 use mathlib.Core.List.{List, [], ◌∷◌}
-use Prim.Native.Nat.{ℕ, zero, suc, ◌+◌, ◌-◌, ◌≤◌, ◌<◌}
+use Prim.Native.Nat.{ℕ, zero, suc, ◌+◌, ◌<◌}
 use native.Mathlib.Omega.{arith}
 use lib.ListN.{length, get_or}
+use Rattle.std.specs.Prelude.{map}
 use Rattle.numbers.specs.Words.{word}
-use Rattle.rule.specs.Settings.{longest, between, rising}
-use Rattle.rule.specs.SettingsLaws.{rising_next, rising_not}
+use Rattle.std.specs.List.{range_with_len}
 use Rattle.settled.specs.Settled.{listed}
 
 -- ---- words as a list
@@ -32,22 +31,8 @@ listed_is (x ∷ xs) m a h =
     let v : listed (length xs) m (a + 1) ≡ xs = listed_is xs m (a + 1) (λ i l. let g : a + 1 + i ≡ a + suc i = omega arith in rw g (h (suc i) (omega arith))) in
     rw (u, v)
 
--- ---- delays that rise
--- the words of the lines from the one after line i on
-listed_cons : (m : List ℕ) (n i w : ℕ) → i < n → w ≡ word m (8 + i) → listed (n - i) m (8 + i) ≡ w ∷ listed (n - (i + 1)) m (8 + (i + 1))
+-- words that are read one after the other
+pub listed_map : (m : List ℕ) (n a k : ℕ) → map (λ i. word m (a + i)) (range_with_len k n) ≡ listed n m (a + k)
 unfolding listed
-listed_cons m n i w h e =
-    let a : n - i ≡ suc (n - (i + 1)) = omega arith in
-    let b : 8 + i + 1 ≡ 8 + (i + 1) = omega arith in
-    rw (a, e, b)
-
-module _ (m : List ℕ) (n i d w : ℕ) (h : i < n) (e : w ≡ word m (8 + i)) where
-  pub rise_next : between (suc d) longest w ≡ true → rising d (listed (n - i) m (8 + i)) ≡ rising w (listed (n - (i + 1)) m (8 + (i + 1)))
-  rise_next u = ap (rising d) (listed_cons m n i w h e) ∙ rising_next d w (listed (n - (i + 1)) m (8 + (i + 1))) u
-
-  pub rise_not : between (suc d) longest w ≡ false → rising d (listed (n - i) m (8 + i)) ≡ false
-  rise_not u = ap (rising d) (listed_cons m n i w h e) ∙ rising_not d w (listed (n - (i + 1)) m (8 + (i + 1))) u
-
-pub rise_end : (m : List ℕ) (n i d : ℕ) → n ≤ i → rising d (listed (n - i) m (8 + i)) ≡ true
-unfolding listed
-rise_end m n i d h = let a : n - i ≡ 0 = omega arith in rw a
+listed_map m zero a k = refl
+listed_map m (suc n) a k = let e : a + (k + 1) ≡ a + k + 1 = omega arith in ap (λ ws. word m (a + k) ∷ ws) (rw e at (listed_map m n a (k + 1)))

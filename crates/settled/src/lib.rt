@@ -29,15 +29,7 @@ fn rises(mem: &[u8], lines: usize) -> bool
     requires { (224 ≤ length mem.now) × (lines ≤ most_lines) }
     ensures { result ≡ rising 0 (listed lines mem.now 8) }
 {
-    let mut before: u64 = 0;
-    for i in 0..lines {
-        let delay = get(mem, memory::DELAYS + i);
-        if !ruling::bounds::rises(before, delay) {
-            return false;
-        }
-        before = delay;
-    }
-    true
+    ruling::bounds::rising((0..lines).map(|i| get(mem, memory::DELAYS + i)))
 }
 
 // Whether the words of the header from one on are 0.

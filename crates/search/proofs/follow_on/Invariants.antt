@@ -11,4 +11,4 @@ invariant-loop-u l =
 
 -- the height of the node reached
 abbrev pub decreases-loop-u : goal.decreases-loop-u
-decreases-loop-u l = (node_at l.mem (get_or l.far l.u.deep 0)).height
+decreases-loop-u l = (node_at l.mem (get_or l.far l.u.ahead.deep 0)).height

@@ -13,7 +13,7 @@ returns-then-fits c =
     let e = c.load-n.ensures in
     let x = c.found_at.ensures in (
       (λ t s. answer_leaf _ _ _ _ _ _ w.0 _ e _ c.start.ensures _ c.fits.ensures t s c.if-fits.true _ _ x),
-      notes_found _ _ _ _ _ _ _ _ _ (reaches_leaf _ _ _ _ _ _ c.walk-w.ensures.0 c.walk-w.ensures.1 _ c.requires.searchable.1 _ e) _ x,
+      notes_found _ _ _ _ _ _ _ _ (reaches_leaf _ _ _ _ _ _ c.walk-w.ensures.0 c.walk-w.ensures.1 _ c.requires.searchable.1 _ e) _ x,
       still_ahead _ _ _ _ _ _ x w.2,
     )
 
@@ -34,6 +34,6 @@ returns-then-mark-ne0 c =
     let b = c.load-b.ensures in
     let x = c.found_at-then-mark-ne0.ensures in (
       (λ t s. answer_deep _ _ _ _ _ _ w.0 _ c.load-n.ensures _ c.start.ensures _ c.fits.ensures t s c.if-fits.false c.if-mark-ne0.true _ g _ b _ _ x),
-      notes_found _ _ _ _ _ _ _ _ _ (reaches_mark _ _ _ _ _ _ w.0 w.1 _ c.requires.searchable.1 c.if-mark-ne0.true _ _ _ g d.1 _ b) _ x,
+      notes_found _ _ _ _ _ _ _ _ (reaches_mark _ _ _ _ _ _ w.0 w.1 _ c.requires.searchable.1 c.if-mark-ne0.true _ _ _ g d.1 _ b) _ x,
       still_ahead _ _ _ _ _ _ x w.2,
     )

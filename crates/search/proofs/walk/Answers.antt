@@ -92,7 +92,7 @@ overflow_add-result c = omega (arith, on_few _ _ _ _ _ _ _ _ (c.loop-place.invar
 
 pub returns : goal.returns
 returns c = (
-  (λ t s. on_leaf _ _ _ t _ _ _ _ (c.loop-place.invariant.1 t s) _ c.loop-place.invariant.0 c.loop-place-test.false _ _ _),
-  trodden _ _ _ _ _ _ _ c.loop-place.invariant.2 _ _ _,
+  (λ t s. on_leaf _ _ _ t _ _ _ _ (c.loop-place.invariant.1 t s) _ c.loop-place.invariant.0 c.loop-place-test.false _ _),
+  trodden _ _ _ _ _ _ _ c.loop-place.invariant.2 _ _,
   ahead _ _ _ _ _ _ _ c.loop-place.invariant.4 c.follow_on-e.ensures,
 )

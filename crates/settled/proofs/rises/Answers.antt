@@ -1,13 +1,16 @@
--- `settled::rises`: the delays that are left rise exactly if all of them do. Assumes nothing.
-use mathlib.Core.Path.{sym, ◌∙◌}
-use Rattle.settled.proofs.Settling.{rise_next, rise_not, rise_end}
+-- `settled::rises`: the iterator gives the words of the lines. Assumes nothing.
+use mathlib.Core.Path.{refl, ap, ◌∙◌}
+use Prim.Native.Nat.{◌+◌}
+use native.Mathlib.Omega.{arith}
+use Rattle.std.proofs.Common.{rules, tests}
+use Rattle.std.proofs.lemmas.Iterator.{YieldsList-from_map, YieldsList-from_range}
+use Rattle.std.proofs.lemmas.Iterator.Consumers.{YieldsList-at}
+use Rattle.numbers.specs.Words.{word}
+use Rattle.rule.specs.Settings.{rising}
+use Rattle.settled.proofs.Settling.{listed_map}
 use Rattle.settled.proofs.rises.Goals as goal
 
-pub returns-then-not-rises : goal.returns-then-not-rises
-returns-then-not-rises c = sym (c.loop-i.invariant ∙ rise_not _ _ _ _ _ c.loop-i-test.true c.get-delay.ensures (sym c.rises.ensures ∙ c.if-not-rises.true))
-
-pub loop-i-preserved : goal.loop-i-preserved
-loop-i-preserved c = c.loop-i.invariant ∙ rise_next _ _ _ _ _ c.loop-i-test.true c.get-delay.ensures (sym c.rises.ensures ∙ c.if-not-rises.false)
-
 pub returns : goal.returns
-returns c = sym (c.loop-i.invariant ∙ rise_end _ _ _ _ c.loop-i-test.false)
+returns c =
+    c.rising.ensures _ (YieldsList-from_map _ (λ i. word c.args.mem.now (8 + i)) (YieldsList-at c.map.ensures.source (YieldsList-from_range 0 _ c.args.lines refl (omega arith))) c.map.ensures.closure (λ x r q k. search (rules, tests))).runs
+    ∙ ap (rising 0) (listed_map c.args.mem.now c.args.lines 8 0)

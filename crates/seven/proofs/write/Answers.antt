@@ -1,16 +1,35 @@
--- `seven::write`: what is written over a part of the slice is so many numbers set one after the other.
-use Rattle.std.proofs.Common.{◌≡◌, sym, ◌∙◌, append_assoc, arith, ℕ, ◌+◌, ◌-◌, ◌≤◌, length, List}
-use Rattle.std.proofs.lemmas.List.Edits.{sets, sets-eq}
-use Rattle.std.proofs.Math.Seq.{drop-drop}
-use lib.ListN.{take}
-use borrow.Rule.Slice.PartMut.{put_mid}
-use Rattle.rule.specs.Answer.{numbers_of}
+-- `seven::write`: seven stores in a row. Assumes nothing.
+use native.Mathlib.Omega.{arith}
+use lib.ListN.{length-set}
+use mathlib.Core.Path.{◌≡◌}
+use Prim.Native.Nat.{suc, ◌+◌}
 use Rattle.seven.proofs.write.Goals as goal
 
-over : (a : ℕ) (xs ys vs : List ℕ) → ys ≡ vs → a + length vs ≤ length xs → put_mid a (a + length vs - a) xs ys ≡ sets xs a vs
-over a xs ys vs e h =
-    let k : a + length vs - a ≡ length vs = omega arith in
-    rw (e, k, drop-drop (length vs) a xs) (sym (sets-eq vs xs a h ∙ append_assoc (take a xs) vs _))
+pub bounds-answers-at-2 : goal.bounds-answers-at-2
+bounds-answers-at-2 c = simp length-set (omega arith)
+
+pub bounds-answers-at-3 : goal.bounds-answers-at-3
+bounds-answers-at-3 c = simp length-set (omega arith)
+
+pub bounds-answers-at-4 : goal.bounds-answers-at-4
+bounds-answers-at-4 c = simp length-set (omega arith)
+
+pub bounds-answers-at-5 : goal.bounds-answers-at-5
+bounds-answers-at-5 c = simp length-set (omega arith)
+
+pub bounds-answers-at-6 : goal.bounds-answers-at-6
+bounds-answers-at-6 c = simp length-set (omega arith)
+
+pub bounds-answers-at-7 : goal.bounds-answers-at-7
+bounds-answers-at-7 c = simp length-set (omega arith)
 
 pub returns : goal.returns
-returns c = over c.args.at c.args.answers.now c.copy_from_slice.new.self (numbers_of c.args.a) (c.copy_from_slice.ensures.after ∙ c.into-numbers.ensures) c.requires
+returns c =
+    let w = c.args.at in
+    let e₁ : w + 1 ≡ suc w = omega arith in
+    let e₂ : w + 2 ≡ suc (suc w) = omega arith in
+    let e₃ : w + 3 ≡ suc (suc (suc w)) = omega arith in
+    let e₄ : w + 4 ≡ suc (suc (suc (suc w))) = omega arith in
+    let e₅ : w + 5 ≡ suc (suc (suc (suc (suc w)))) = omega arith in
+    let e₆ : w + 6 ≡ suc (suc (suc (suc (suc (suc w))))) = omega arith in
+    simp (e₁, e₂, e₃, e₄, e₅, e₆)
