@@ -28,13 +28,13 @@ fn below(mem: &mut [u8], s: usize, bound: u64, spare: &mut u64) -> bool
     if left_gone {
         copy(mem, right, s);
         memory::give_spare(mem, n.place / PLACE_WORDS, *spare);
-        *spare = *spare + 1;
+        *spare += 1;
         return right_gone;
     }
     if right_gone {
         copy(mem, left, s);
         memory::give_spare(mem, n.place / PLACE_WORDS, *spare);
-        *spare = *spare + 1;
+        *spare += 1;
         return false;
     }
     joining::join(mem, s, n.place);

@@ -35,9 +35,5 @@ pub fn join(mem: &mut [u8], s: usize, w: u64)
 {
     let l = load(mem, near(true, w)).height;
     let r = load(mem, far(true, w)).height;
-    if r <= l {
-        hang(mem, s, w, true);
-    } else {
-        hang(mem, s, w, false);
-    }
+    hang(mem, s, w, r <= l);
 }

@@ -10,6 +10,11 @@ use rule::answer::Answer;
 use ruling::bounds::Settings;
 use std::io;
 
+const ROOM: u64 = 256;
+
+// The bytes that a link with that room needs.
+const NEED: usize = node::HEADER_BYTES + node::NODE_BYTES * (2 * ROOM as usize + 1);
+
 // An order on the link, with what its record would say of it.
 #[derive(Clone, Copy)]
 enum Order {
@@ -98,7 +103,7 @@ fn play(rt: &impl Print, mem: &mut [u8]) -> io::Result<()>
 // The opening: 2 channels, leap 1000, floor 0, one line of 5, room 256. Then the orders, and the voids kept.
 fn session(rt: &impl Print, mem: &mut [u8]) -> io::Result<()> {
     let settings = Settings {
-        room: 256,
+        room: ROOM,
         channels: 2,
         leap: 1000,
         delays: &[5],
@@ -120,6 +125,6 @@ fn session(rt: &impl Print, mem: &mut [u8]) -> io::Result<()> {
 }
 
 fn main(rt: HostRuntime) -> io::Result<()> {
-    let mut mem = [0u8; 20728];
+    let mut mem = [0u8; NEED];
     session(&rt, &mut mem)
 }

@@ -62,8 +62,7 @@ pub fn far(left: bool, first: u64) -> usize
     requires { first < half_word }
     ensures { result ≡ far left first (first + 4) }
 {
-    let at = first as usize;
-    if left { at + NODE_WORDS } else { at }
+    near(!left, first)
 }
 
 // The node at seat s.

@@ -12,7 +12,7 @@ pub fn get(mem: &[u8], i: usize) -> u64
     u64::from_le_bytes(mem[at..at + 8].try_into().unwrap())
 }
 
-// Makes v word i. Byte by byte, for the sake of speed: `copy_from_slice` stores the bytes beside the stack first (docs/DECISIONS.md).
+// Makes v word i. Byte by byte, for the sake of speed: `copy_from_slice` tests at run time whether the two overlap (docs/DECISIONS.md).
 pub fn put(mem: &mut [u8], i: usize, v: u64)
     requires { 8 * i + 8 ≤ length mem.old }
     ensures { mem.new ≡ store mem.old i v }

@@ -1,4 +1,4 @@
-// The record reader: the bytes at the start of a buffer, as an order or a refusal.
+// The record reader: the bytes at the start of a buffer, as a record or `Unread`.
 // Every byte string is answered; nothing here knows a link.
 #![tactic(auto)]
 

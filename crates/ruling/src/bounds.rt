@@ -13,11 +13,11 @@ pub const MOST_ROOM: u64 = 4096;
 // The longest delay, burst and leap.
 pub const LONGEST: u64 = 4294967295;
 
-// Whether a delay may come after the last one: it is longer, and not too long.
-fn rises(last: u64, delay: u64) -> bool
-    ensures { result ≡ between (suc last) longest delay }
+// Whether a delay may come next: it is no shorter than the least that may, and not too long.
+fn rises(least: u64, delay: u64) -> bool
+    ensures { result ≡ between least longest delay }
 {
-    last < delay && delay <= LONGEST
+    (least..=LONGEST).contains(&delay)
 }
 
 // Whether the delays rise from 1 on, and none is too long.
@@ -26,12 +26,12 @@ pub fn rising<I: Iterator<Item = u64>>(delays: I) -> bool
     requires ends { IsFinite (I.remaining delays) }
     ensures { (xs : List ℕ) → AlwaysYields I.next_gives (λ x. x) delays xs → result ≡ rising 0 xs }
 {
-    let mut last: u64 = 0;
+    let mut least: u64 = 1;
     for delay in delays {
-        if !rises(last, delay) {
+        if !rises(least, delay) {
             return false;
         }
-        last = delay;
+        least = delay + 1;
     }
     true
 }

@@ -9,7 +9,7 @@ use tally::Tally;
 const ROOM: u64 = 256;
 
 // The bytes that a link with that room needs.
-const NEED: usize = 20728;
+const NEED: usize = node::HEADER_BYTES + node::NODE_BYTES * (2 * ROOM as usize + 1);
 
 const LONGEST_INPUT: u64 = 32768;
 
@@ -46,7 +46,7 @@ fn serve<W: Write>(out: &mut W, mem: &mut [u8], bytes: &[u8]) -> io::Result<()> 
 }
 
 fn main(rt: HostRuntime) -> io::Result<()> {
-    let mut input = Vec::new(rt.alloc());
+    let mut input = Vec::with_capacity(rt.alloc(), LONGEST_INPUT as usize)?;
     // an input that cannot be read on ends there
     let _ = rt.reader().take(LONGEST_INPUT).read_to_end(&mut input);
     let mut out = BufWriter::new(rt.alloc(), io::writer(&rt))?;

@@ -1,4 +1,4 @@
-// One record acted on, on a whole link (specs/Steps.antt): what is read decides between the booking, the sweep and a refusal.
+// One record acted on, on a whole link (specs/Steps.antt): what is read decides between the booking, the sweep and `Unread`.
 // That the link is whole its caller has checked, once for all records of a run.
 #![tactic(auto)]
 

@@ -1,8 +1,9 @@
 -- `joining::join`: by the heights read, the higher tree takes the lower (Joining). Assumes nothing.
+use mathlib.Core.Path.{refl}
 use mathlib.Core.Bool.{true}
 use Rattle.summing.proofs.Sums.{read_at}
 use Rattle.turning.proofs.Sides.{both_within, both_small}
-use Rattle.joining.proofs.Joining.{joins_left, joins_right}
+use Rattle.joining.proofs.Joining.{joins_by}
 use Rattle.joining.proofs.join.Goals as goal
 
 pub near-requires : goal.near-requires
@@ -17,8 +18,5 @@ far-requires c = both_small _ _ _ c.requires
 pub load-r-requires : goal.load-r-requires
 load-r-requires c = rw c.far.ensures (both_within _ true _ _ c.requires).1
 
-pub returns-then-r-l : goal.returns-then-r-l
-returns-then-r-l c = joins_left _ _ _ _ _ (read_at _ c.near.ensures c.load-l.ensures) (read_at _ c.far.ensures c.load-r.ensures) _ c.if-r-l.true c.hang.ensures
-
-pub returns-else-r-l : goal.returns-else-r-l
-returns-else-r-l c = joins_right _ _ _ _ _ (read_at _ c.near.ensures c.load-l.ensures) (read_at _ c.far.ensures c.load-r.ensures) _ c.if-r-l.false c.hang-else-r-l.ensures
+pub returns : goal.returns
+returns c = joins_by _ _ _ _ _ (read_at _ c.near.ensures c.load-l.ensures) (read_at _ c.far.ensures c.load-r.ensures) _ _ refl c.hang.ensures
