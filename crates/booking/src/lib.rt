@@ -3,7 +3,6 @@
 #![tactic(auto)]
 
 ghost use Rattle.std.specs.Prelude.{◌≡◌, ◌≤◌, IfOk};
-ghost use Rattle.rule.specs.Moments.{last_moment};
 ghost use Rattle.rule.specs.Settings.{longest};
 ghost use Rattle.rule.specs.Answer.{answer_of};
 ghost use Rattle.state.specs.State.{State};
@@ -13,18 +12,19 @@ ghost use Rattle.booking.specs.Book.{Books};
 
 use numbers::words::get;
 use rule::answer::{Answer, Refused};
+use rule::moments::Moment;
 use rule::refusal::Refusal;
 
 // Books a burst on a whole link. A refusal leaves it as it was.
-pub fn book(mem: &mut [u8], arrival: u64, burst: u64, permitted: u64) -> Result<Answer, Refused>
-    requires arrival_le_last_moment { (arrival ≤ last_moment) × (burst ≤ longest) }
+pub fn book(mem: &mut [u8], arrival: Moment, burst: u64, permitted: u64) -> Result<Answer, Refused>
+    requires burst_le_longest { burst ≤ longest }
     requires whole { Whole mem.old }
-    ensures books { (s : State) → Sound s → Holds mem.old s → Books arrival burst permitted (answer_of result) mem.old mem.new s }
+    ensures books { (s : State) → Sound s → Holds mem.old s → Books arrival.ticks burst permitted (answer_of result) mem.old mem.new s }
     ensures accepted { IfOk result (λ answer. answer.code ≡ 0) }
 {
-    let floor = get(mem, memory::FLOOR);
+    let floor = memory::floor(mem);
     let lines = get(mem, memory::LINES);
-    rule::codes::check_booking(floor, lines, arrival, burst, permitted)?;
+    rule::codes::check_booking(floor.ticks, lines, arrival, burst, permitted)?;
     let hold = rule::fit::hold(burst);
     let mut way = [0u16; memory::LONGEST_WAY];
     let mut far = [0u16; memory::LONGEST_WAY];

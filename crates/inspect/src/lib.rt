@@ -3,13 +3,12 @@
 #![tactic(auto)]
 
 ghost use Rattle.std.specs.Prelude.{◌≡◌, ◌≤◌, ◌<◌, length};
-ghost use Rattle.rule.specs.Moments.{last_moment};
 ghost use Rattle.state.specs.Sound.{Lawful};
 ghost use Rattle.settled.specs.Says.{Says};
 ghost use Rattle.inspect.specs.Inspect.{Single, Joined, Leaf};
 
 use node::Node;
-use rule::moments::OPEN_END;
+use rule::moments::{Moment, OPEN_END};
 
 // Whether n is a leaf's node, but for its key and its end.
 fn single(n: Node) -> bool
@@ -34,9 +33,8 @@ pub fn joined(n: Node, x: Node, y: Node) -> bool
 }
 
 // Whether a link may have a void with that key and end.
-fn lawful(channels: u64, floor: u64, key: u64, end: u64) -> bool
-    requires { floor ≤ last_moment }
-    ensures { Says (Lawful channels floor key end) result }
+fn lawful(channels: u64, floor: Moment, key: u64, end: u64) -> bool
+    ensures { Says (Lawful channels floor.ticks key end) result }
 {
     ruling::key::channel(key) < channels
         && ruling::key::start(key) < end
@@ -45,9 +43,9 @@ fn lawful(channels: u64, floor: u64, key: u64, end: u64) -> bool
 }
 
 // Whether n is a leaf that comes next; its end is then its channel's last.
-pub fn leaf(ends: &mut [u64], channels: u64, floor: u64, after: u64, n: Node) -> bool
-    requires { (channels ≤ length ends.old) × (floor ≤ last_moment) }
-    ensures { Leaf channels floor after ends.old ends.new n result }
+pub fn leaf(ends: &mut [u64], channels: u64, floor: Moment, after: u64, n: Node) -> bool
+    requires { channels ≤ length ends.old }
+    ensures { Leaf channels floor.ticks after ends.old ends.new n result }
 {
     let channel = ruling::key::channel(n.lo) as usize;
     let next = single(n)

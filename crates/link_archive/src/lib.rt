@@ -13,6 +13,7 @@ ghost use Rattle.booking.specs.Book.{Books};
 ghost use Rattle.sweeping.specs.Swept.{Sweeps};
 
 use rule::answer::Answer;
+use rule::moments::Moment;
 
 #[unsafe(no_mangle)]
 pub extern "C" fn link_book(mem: &mut [u8], arrival: u64, burst: u64, lines: u64) -> Answer
@@ -20,7 +21,7 @@ pub extern "C" fn link_book(mem: &mut [u8], arrival: u64, burst: u64, lines: u64
     requires whole { Whole mem.old }
     ensures { (s : State) → Sound s → Holds mem.old s → Books arrival burst lines result mem.old mem.new s }
 {
-    Answer::of(booking::book(mem, arrival, burst, lines))
+    Answer::of(booking::book(mem, Moment { ticks: arrival }, burst, lines))
 }
 
 #[unsafe(no_mangle)]
@@ -29,7 +30,7 @@ pub extern "C" fn link_sweep(mem: &mut [u8], moment: u64) -> Answer
     requires whole { Whole mem.old }
     ensures { (s : State) → Sound s → Holds mem.old s → Sweeps moment result mem.old mem.new s }
 {
-    Answer::of(sweeping::sweep(mem, moment))
+    Answer::of(sweeping::sweep(mem, Moment { ticks: moment }))
 }
 
 #[unsafe(no_mangle)]

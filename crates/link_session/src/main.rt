@@ -7,6 +7,7 @@ ghost use Rattle.link_session.specs.Orders.{InBounds};
 
 use lines::Line;
 use rule::answer::Answer;
+use rule::moments::Moment;
 use ruling::bounds::Settings;
 use std::io;
 
@@ -85,8 +86,8 @@ fn answer(mem: &mut [u8], order: Order) -> Answer
             arrival,
             burst,
             lines,
-        } => Answer::of(booking::book(mem, arrival, burst, lines)),
-        Order::Sweep { moment } => Answer::of(sweeping::sweep(mem, moment)),
+        } => Answer::of(booking::book(mem, Moment { ticks: arrival }, burst, lines)),
+        Order::Sweep { moment } => Answer::of(sweeping::sweep(mem, Moment { ticks: moment })),
     }
 }
 
@@ -108,7 +109,7 @@ fn session(rt: &impl Print, mem: &mut [u8]) -> io::Result<()> {
         leap: 1000,
         delays: &[5],
     };
-    if let Err(why) = opening::open(mem, &settings, 0) {
+    if let Err(why) = opening::open(mem, &settings, Moment { ticks: 0 }) {
         let code = why.into();
         return println!(rt; "{}", Line::Refusal { n: 0, code });
     }

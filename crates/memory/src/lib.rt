@@ -7,11 +7,12 @@ ghost use Rattle.numbers.specs.Words.{word, store};
 ghost use Rattle.rule.specs.Settings.{most_room};
 ghost use Rattle.node.specs.Layout.{Within, node_at};
 ghost use Rattle.memory.specs.Header.{need};
-ghost use Rattle.memory.specs.Holds.{Gives};
+ghost use Rattle.memory.specs.Holds.{Gives, Whole};
 ghost use Rattle.memory.specs.Steps.{Some, Noted, Roomy, Led, Several, CutOut, GivesBack, Shortens, Adds, Drops, Refloors};
 
 use node::{PLACE_WORDS, far, near};
 use numbers::words::{get, put};
+use rule::moments::Moment;
 
 // The words of the header (specs/Header.antt).
 pub const ROOM: usize = 0;
@@ -116,6 +117,16 @@ pub fn drop(mem: &mut [u8], key: u64)
 {
     let q = tree::remove(mem, node::ROOT, key);
     give_back(mem, q);
+}
+
+// The floor of a whole link.
+#[tactic(auto, using(crate::proofs::Whole::floor_low))]
+pub fn floor(mem: &[u8]) -> Moment
+    requires { Whole mem.now }
+    ensures { result.ticks ≡ word mem.now 4 }
+{
+    let ticks = get(mem, FLOOR);
+    Moment { ticks }
 }
 
 // Another floor.

@@ -1,12 +1,12 @@
 // Opening a link: the table of bounds, the need, then a link of one channel and a void more for each further channel.
 #![tactic(auto)]
 
-ghost use Rattle.std.specs.Prelude.{◌≡◌, ◌≤◌};
-ghost use Rattle.rule.specs.Moments.{last_moment};
+ghost use Rattle.std.specs.Prelude.{◌≡◌};
 ghost use Rattle.ruling.specs.Settings.{settings_of};
 ghost use Rattle.opening.specs.Opening.{Opens, opened_code};
 ghost use Rattle.opening.specs.Stages.{Narrow, Widens};
 
+use rule::moments::{Moment, OPEN_END};
 use rule::refusal::Unopened;
 use ruling::bounds::Settings;
 
@@ -19,23 +19,18 @@ fn widen(mem: &mut [u8], channels: u64, floor: u64)
 {
     for channel in 1..channels {
         numbers::words::put(mem, memory::CHANNELS, channel + 1);
-        memory::add(
-            mem,
-            ruling::key::key(floor, channel),
-            rule::moments::OPEN_END,
-        );
+        memory::add(mem, ruling::key::key(floor, channel), OPEN_END);
     }
 }
 
 // Opens a link in memory of any content; refused, it is as it was.
-pub fn open(mem: &mut [u8], settings: &Settings, floor: u64) -> Result<(), Unopened>
-    requires { floor ≤ last_moment }
-    ensures { Opens (settings_of settings.now) floor mem.old mem.new (opened_code result) }
+pub fn open(mem: &mut [u8], settings: &Settings, floor: Moment) -> Result<(), Unopened>
+    ensures { Opens (settings_of settings.now) floor.ticks mem.old mem.new (opened_code result) }
 {
     if !settings.in_bounds() || mem.len() < memory::need(settings.room) {
         return Err(Unopened::OutOfBounds);
     }
     single::open_single(mem, settings, floor);
-    widen(mem, settings.channels, floor);
+    widen(mem, settings.channels, floor.ticks);
     Ok(())
 }

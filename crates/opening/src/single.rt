@@ -1,7 +1,6 @@
 // A link of one channel, written into memory of any content: header, one leaf at the root's seat, all other places spare.
 ghost use Rattle.std.specs.Prelude.{◌≡◌, ◌+◌, ◌≤◌, ◌<◌, length, get_or};
 ghost use Rattle.numbers.specs.Words.{word};
-ghost use Rattle.rule.specs.Moments.{last_moment};
 ghost use Rattle.rule.specs.Settings.{most_lines, most_room};
 ghost use Rattle.ruling.specs.Settings.{settings_of};
 ghost use Rattle.node.specs.Layout.{most_places};
@@ -11,6 +10,7 @@ ghost use Rattle.memory.specs.Holds.{After};
 ghost use Rattle.opening.specs.Stages.{Tail, bare_header, Draft, Laid};
 
 use numbers::words::put;
+use rule::moments::{Moment, OPEN_END};
 use ruling::bounds::Settings;
 
 // The delay of line i + 1, and 0 where there is none.
@@ -57,12 +57,12 @@ fn lay(mem: &mut [u8], n: u64)
 }
 
 // The link of these settings with one channel in place of theirs.
-pub fn open_single(mem: &mut [u8], settings: &Settings, floor: u64)
-    requires { (need settings.now.room ≤ length mem.old) × (settings.now.room ≤ most_room) × (floor ≤ last_moment) × (length settings.now.delays.now ≤ most_lines) }
-    ensures { After mem.old mem.new (single (settings_of settings.now) floor) }
+pub fn open_single(mem: &mut [u8], settings: &Settings, floor: Moment)
+    requires { (need settings.now.room ≤ length mem.old) × (settings.now.room ≤ most_room) × (length settings.now.delays.now ≤ most_lines) }
+    ensures { After mem.old mem.new (single (settings_of settings.now) floor.ticks) }
 {
-    put_header(mem, settings, floor);
-    let key = ruling::key::key(floor, 0);
-    node::save(mem, node::ROOT, node::leaf(key, rule::moments::OPEN_END));
+    put_header(mem, settings, floor.ticks);
+    let key = ruling::key::key(floor.ticks, 0);
+    node::save(mem, node::ROOT, node::leaf(key, OPEN_END));
     lay(mem, settings.room);
 }

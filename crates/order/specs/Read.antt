@@ -2,7 +2,6 @@
 use Rattle.std.specs.Prelude.{◌≡◌, List, Result, Ok, Err, ℕ, ◌+◌, ◌*◌, ◌^◌, ◌≤◌, ◌<◌, leb, length, take}
 use Rattle.numbers.specs.Case.{pick}
 use Rattle.digits.specs.Digits.{field}
-use Rattle.rule.specs.Moments.{last_moment}
 use Rattle.rule.specs.Settings.{longest}
 use Rattle.rule.specs.Order.{booking, sweep}
 use Rattle.order.specs.declared.Record.{Record}
@@ -12,16 +11,16 @@ use Rattle.order.specs.Records.{Reading, unread, opening, order, delays_at, read
 
 -- each case in 01's values; an opening's delays stay in its bytes. What is no record is refused by 11
 abbrev pub meant : List ℕ → Result Record Unread → Reading
-meant bytes (Ok (Opening channels lines leap floor used)) = opening used (record { channels = channels; delays = delays_at 14 lines bytes; leap = leap; floor = floor })
-meant bytes (Ok (Booking arrival length lines used)) = order used (booking arrival length lines)
-meant bytes (Ok (Sweep moment used)) = order used (sweep moment)
+meant bytes (Ok (Opening channels lines leap floor used)) = opening used (record { channels = channels; delays = delays_at 14 lines bytes; leap = leap; floor = floor.ticks })
+meant bytes (Ok (Booking arrival length lines used)) = order used (booking arrival.ticks length lines)
+meant bytes (Ok (Sweep moment used)) = order used (sweep moment.ticks)
 meant bytes (Err _) = unread 11
 
--- how large the values can be: as wide as their fields; and an opening's length
+-- how large the values can be that are no moments: as wide as their fields; and an opening's length
 abbrev pub Narrow : Result Record Unread → Type 0
-Narrow (Ok (Opening channels lines leap floor used)) = (channels < 256) × (lines < 256) × (leap ≤ longest) × (floor ≤ last_moment) × (used ≡ 14 + 4 * lines)
-Narrow (Ok (Booking arrival length lines used)) = (arrival ≤ last_moment) × (length ≤ longest) × (lines < 2 ^ 16)
-Narrow (Ok (Sweep moment used)) = moment ≤ last_moment
+Narrow (Ok (Opening channels lines leap floor used)) = (channels < 256) × (lines < 256) × (leap ≤ longest) × (used ≡ 14 + 4 * lines)
+Narrow (Ok (Booking arrival length lines used)) = (length ≤ longest) × (lines < 2 ^ 16)
+Narrow (Ok (Sweep _ _)) = Unit
 Narrow (Err _) = Unit
 
 -- what `read` promises of its answer r to these bytes

@@ -3,11 +3,13 @@
 #![tactic(auto)]
 
 ghost use Rattle.std.specs.Prelude.{◌≡◌, ◌+◌, ◌*◌, ◌^◌, ◌≤◌, ◌<◌, ◌↔◌, IsOk, length, take};
+ghost use Rattle.digits.specs.Digits.{field};
 ghost use Rattle.rule.specs.Refusal.{unopened_of};
 ghost use Rattle.order.specs.Records.{delays_at, opening_of, booking_of, compact_of, sweep_of};
 ghost use Rattle.order.specs.Read.{meant, Narrow, Reads, ReadsOpening, delay_of};
 
 use digits::field;
+use rule::moments::Moment;
 use rule::refusal::Unopened;
 
 // What a record says, with its length. A compact booking is a booking with no line permitted; an opening's delays stay
@@ -18,17 +20,17 @@ pub enum Record {
         channels: u64,
         lines: u64,
         leap: u64,
-        floor: u64,
+        floor: Moment,
         used: usize,
     },
     Booking {
-        arrival: u64,
+        arrival: Moment,
         length: u64,
         lines: u64,
         used: usize,
     },
     Sweep {
-        moment: u64,
+        moment: Moment,
         used: usize,
     },
 }
@@ -55,6 +57,16 @@ fn whole(s: &[u8], n: usize) -> Result<(), Unread>
     Ok(())
 }
 
+// The moment in the six bytes from a place on.
+fn moment_at(s: &[u8], place: usize) -> Moment
+    requires { place + 6 ≤ length s.now }
+    ensures { result.ticks ≡ field place 6 s.now }
+{
+    Moment {
+        ticks: field(s, place, 6),
+    }
+}
+
 #[tactic(auto, unfolding(crate::specs::Records::opening_of))]
 fn opening(s: &[u8]) -> Result<Record, Unread>
     ensures { (meant s.now result ≡ opening_of s.now) × Narrow result }
@@ -65,7 +77,7 @@ fn opening(s: &[u8]) -> Result<Record, Unread>
     whole(s, used)?;
     let channels = field(s, 2, 1);
     let leap = field(s, 4, 4);
-    let floor = field(s, 8, 6);
+    let floor = moment_at(s, 8);
     Ok(Record::Opening {
         channels,
         lines,
@@ -80,7 +92,7 @@ fn booking(s: &[u8]) -> Result<Record, Unread>
     ensures { (meant s.now result ≡ booking_of s.now) × Narrow result }
 {
     whole(s, 14)?;
-    let arrival = field(s, 2, 6);
+    let arrival = moment_at(s, 2);
     let length = field(s, 8, 4);
     let lines = field(s, 12, 2);
     Ok(Record::Booking {
@@ -96,7 +108,7 @@ fn compact(s: &[u8]) -> Result<Record, Unread>
     ensures { (meant s.now result ≡ compact_of s.now) × Narrow result }
 {
     whole(s, 10)?;
-    let arrival = field(s, 2, 6);
+    let arrival = moment_at(s, 2);
     let length = field(s, 8, 2);
     Ok(Record::Booking {
         arrival,
@@ -111,7 +123,7 @@ fn sweep(s: &[u8]) -> Result<Record, Unread>
     ensures { (meant s.now result ≡ sweep_of s.now) × Narrow result }
 {
     whole(s, 8)?;
-    let moment = field(s, 2, 6);
+    let moment = moment_at(s, 2);
     Ok(Record::Sweep { moment, used: 8 })
 }
 

@@ -11,6 +11,7 @@ ghost use Rattle.memory.specs.Holds.{Whole};
 ghost use Rattle.seeking.specs.Seek.{StartsOn, Seeks, Points, Foresees};
 
 use numbers::words::get;
+use rule::moments::Moment;
 use search::{Foreseen, Leaf};
 
 // What is taken: the line, the start, the void, as the search found it; and what is noted of the way of the keys from the burst's
@@ -31,18 +32,18 @@ pub struct Tried {
 }
 
 // The start on a line, if it is tried: line 0 is the undelayed one.
-fn start_on(mem: &[u8], line: usize, arrival: u64, hold: u64, permitted: u64) -> Option<u64>
-    requires hold_bound { (arrival + hold ≤ last_moment) × (hold ≤ longest) }
+fn start_on(mem: &[u8], line: usize, arrival: Moment, hold: u64, permitted: u64) -> Option<u64>
+    requires hold_bound { (arrival.ticks + hold ≤ last_moment) × (hold ≤ longest) }
     requires whole { Whole mem.now × (line ≤ word mem.now 2) }
-    ensures { StartsOn line arrival hold permitted result mem.now }
+    ensures { StartsOn line arrival.ticks hold permitted result mem.now }
 {
     if line == 0 {
-        return Some(arrival);
+        return Some(arrival.ticks);
     }
     let before = line - 1;
     let d = get(mem, memory::DELAYS + before);
     if ruling::starts::tried(arrival, hold, permitted, before as u64, d) {
-        return Some(arrival + d);
+        return Some(arrival.ticks + d);
     }
     None
 }
@@ -51,15 +52,15 @@ fn start_on(mem: &[u8], line: usize, arrival: u64, hold: u64, permitted: u64) ->
 // search is called at one place, so that it is built in there.
 pub fn seek(
     mem: &[u8],
-    arrival: u64,
+    arrival: Moment,
     hold: u64,
     permitted: u64,
     way: &mut [u16],
     far: &mut [u16],
 ) -> Tried
-    requires hold_bound { (arrival + hold ≤ last_moment) × (hold ≤ longest) × (longest_way ≤ length way.old) × (longest_way ≤ length far.old) }
+    requires hold_bound { (arrival.ticks + hold ≤ last_moment) × (hold ≤ longest) × (longest_way ≤ length way.old) × (longest_way ≤ length far.old) }
     requires whole { Whole mem.now }
-    ensures { Seeks arrival hold permitted result mem.now × Points mem.now way.new result × Foresees hold mem.now far.new result }
+    ensures { Seeks arrival.ticks hold permitted result mem.now × Points mem.now way.new result × Foresees hold mem.now far.new result }
 {
     let lines = get(mem, memory::LINES) as usize;
     let mut count = 0;

@@ -11,7 +11,7 @@ use Rattle.numbers.specs.Case.{pick}
 use Rattle.tally.specs.declared.Tally.{Tally}
 use Rattle.rule.specs.declared.answer.Answer.{Answer}
 use Rattle.rule.specs.declared.answer.Refused.{Refused}
-use Rattle.rule.specs.Moments.{last_moment}
+use Rattle.rule.specs.declared.moments.Moment.{Moment}
 use Rattle.rule.specs.Order.{Order, booking, sweep}
 use Rattle.rule.specs.Fit.{hold, free}
 use Rattle.rule.specs.Starts.{starts}
@@ -97,13 +97,12 @@ pub record Told (outcome : Result Answer Refused) (u w : ℕ) (x : Single) : Typ
   pub row : index_of x.row ≡ row_at (answer_of outcome).code w
 
 module _ (bytes : List ℕ) (r : Result Record Unread) (n : Reads bytes r) where
-  pub booked_steps : (b l p u : ℕ) → r ≡ Ok (Booking b l p u) → (y : Result Answer Refused) (x : Single) (m m' : List ℕ)
-      → ((s : State) → Sound s → Holds m s → Books b l p (answer_of y) m m' s) → Told y u 0 x → Steps bytes (Ok x) m m'
+  pub booked_steps : (b : Moment) (l p u : ℕ) → r ≡ Ok (Booking b l p u) → (y : Result Answer Refused) (x : Single) (m m' : List ℕ)
+      → ((s : State) → Sound s → Holds m s → Books b.ticks l p (answer_of y) m m' s) → Told y u 0 x → Steps bytes (Ok x) m m'
   booked_steps b l p u q y x m m' f e s o h =
-      ordered bytes x 0 (booking b l p) (sym n.is ∙ ap (meant bytes) q ∙ ap (λ (z : ℕ). order z (booking b l p)) (sym e.used)) (rw e.answer e.row) m m' s o tt (booking_row s b l p) (rw e.answer (f s o h).answer) (f s o h).after
+      ordered bytes x 0 (booking b.ticks l p) (sym n.is ∙ ap (meant bytes) q ∙ ap (λ (z : ℕ). order z (booking b.ticks l p)) (sym e.used)) (rw e.answer e.row) m m' s o tt (booking_row s b.ticks l p) (rw e.answer (f s o h).answer) (f s o h).after
 
-  pub swept_steps : (b u : ℕ) → r ≡ Ok (Sweep b u) → (y : Result Answer Refused) (x : Single) (m m' : List ℕ)
-      → ((s : State) → Sound s → Holds m s → Sweeps b (answer_of y) m m' s) → Told y u 1 x → Steps bytes (Ok x) m m'
+  pub swept_steps : (b : Moment) (u : ℕ) → r ≡ Ok (Sweep b u) → (y : Result Answer Refused) (x : Single) (m m' : List ℕ)
+      → ((s : State) → Sound s → Holds m s → Sweeps b.ticks (answer_of y) m m' s) → Told y u 1 x → Steps bytes (Ok x) m m'
   swept_steps b u q y x m m' f e s o h =
-      let late : b ≤ last_moment = rw q at n.narrow in
-      ordered bytes x 1 (sweep b) (sym n.is ∙ ap (meant bytes) q ∙ ap (λ (z : ℕ). order z (sweep b)) (sym e.used)) (rw e.answer e.row) m m' s o late (sweep_row s b) (rw e.answer (f s o h).answer) (f s o h).after
+      ordered bytes x 1 (sweep b.ticks) (sym n.is ∙ ap (meant bytes) q ∙ ap (λ (z : ℕ). order z (sweep b.ticks)) (sym e.used)) (rw e.answer e.row) m m' s o b.in_bounds (sweep_row s b.ticks) (rw e.answer (f s o h).answer) (f s o h).after

@@ -1,22 +1,20 @@
 -- What a survey of the tree decides, in the order in which it goes: from left to right, a leaf after the other.
 -- `ends` has one more than the last end seen of each channel; `after` is one more than the last key seen.
 use Rattle.std.specs.Prelude.{◌≡◌, List, ℕ, ◌+◌, ◌*◌, ◌%◌, ◌≤◌, ◌<◌, length, get_or, set, Option, IfSome, IfNone}
-use Rattle.rule.specs.Moments.{last_moment}
 use Rattle.rule.specs.Key.{channel_of}
 use Rattle.shape.specs.Tree.{Tree, leaf, node, height, size, uses}
 use Rattle.node.specs.Layout.{bytes_for, most_places}
 use Rattle.node.specs.Rep.{Stands}
 use Rattle.inspect.specs.Inspect.{Near, NextVoid}
 
--- what a survey of a seat may count on: n places in the memory, the seat one of theirs or the root's, an end for each channel, a floor that is a moment
-pub record Reach (m x : List ℕ) (n channels floor seat : ℕ) : Type 0 where
+-- what a survey of a seat may count on: n places in the memory, the seat one of theirs or the root's, an end for each channel
+pub record Reach (m x : List ℕ) (n channels seat : ℕ) : Type 0 where
   pub long : bytes_for n ≤ length m
   pub small : n ≤ most_places
   pub least : 4 ≤ seat
   pub most : seat < 8 * n
   pub whole : seat % 4 ≡ 0
   pub ends : channels ≤ length x
-  pub most_floor : floor ≤ last_moment
 
 -- the number is the left seat of one of n places, and not of the root's
 pub record Seated (n first : ℕ) : Type 0 where

@@ -11,14 +11,14 @@ ghost use Rattle.settled.specs.Settled.{Settled};
 ghost use Rattle.survey.specs.Survey.{Surveyed, Reach, Seated};
 ghost use Rattle.survey.specs.Planted.{Planted};
 
-use rule::moments::OPEN_END;
+use rule::moments::{Moment, OPEN_END};
 
 // What the header says that a survey goes by.
 #[derive(Clone, Copy)]
 struct Header {
     places: u64,
     channels: u64,
-    floor: u64,
+    floor: Moment,
 }
 
 // Whether a node's children stand at a place of the link's, of which there are so many: it has the left seat there.
@@ -40,8 +40,8 @@ fn survey(
     limit: u64,
     after: u64,
 ) -> Option<u64>
-    requires { Reach mem.now ends.old header.now.places header.now.channels header.now.floor seat }
-    ensures { Surveyed mem.now header.now.places header.now.channels header.now.floor ends.old ends.new seat limit after visits.old visits.new result }
+    requires { Reach mem.now ends.old header.now.places header.now.channels seat }
+    ensures { Surveyed mem.now header.now.places header.now.channels header.now.floor.ticks ends.old ends.new seat limit after visits.old visits.new result }
 {
     if *visits == 0 {
         return None;
@@ -90,7 +90,7 @@ pub fn tree(mem: &[u8]) -> bool
     let header = Header {
         places: room + 1,
         channels,
-        floor,
+        floor: Moment { ticks: floor },
     };
     let limit = ruling::height::allowed(kept) + 1;
     // one for each channel that a link may have

@@ -53,7 +53,7 @@ pub fn split(
     requires ahead { Ahead f ahead.deep ahead.after far.now mem.old }
     ensures { Splits leaf.key leaf.end r f mem.old mem.new }
 {
-    let floor = get(mem, memory::FLOOR);
+    let floor = memory::floor(mem);
     let behind = ruling::kept::kept(floor, f, leaf.end);
     let next = ruling::key::key(f, ruling::key::channel(leaf.key));
     let front = ruling::kept::kept(floor, ruling::key::start(leaf.key), r);
@@ -73,7 +73,7 @@ pub fn too_many(mem: &[u8], leaf: Leaf, r: u64, f: u64) -> bool
     requires { Whole mem.now }
     ensures { (s : State) → Holds mem.now s → result ≡ overfull s leaf.key leaf.end r f }
 {
-    let floor = get(mem, memory::FLOOR);
+    let floor = memory::floor(mem);
     if ruling::kept::kept(floor, ruling::key::start(leaf.key), r) {
         if ruling::kept::kept(floor, f, leaf.end) {
             return get(mem, memory::ROOM) <= get(mem, memory::KEPT);

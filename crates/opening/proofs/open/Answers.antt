@@ -13,12 +13,12 @@ pub widen-requires : goal.widen-requires
 widen-requires c =
     let g = settings_of c.args.settings.now in
     let b : in_bounds g ≡ true = sym c.in_bounds.ensures ∙ c.if-not-in_bounds.false in
-    let B : Begun g _ _ _ = record { bounds = b; early = c.requires; many = refl; holds = c.open_single.ensures.holds } in
+    let B : Begun g _ _ _ = record { bounds = b; early = c.args.floor.in_bounds; many = refl; holds = c.open_single.ensures.holds } in
     (g, B)
 
 pub returns : goal.returns
 returns c =
     let g = settings_of c.args.settings.now in
     let b : in_bounds g ≡ true = sym c.in_bounds.ensures ∙ c.if-not-in_bounds.false in
-    let B : Begun g _ _ _ = record { bounds = b; early = c.requires; many = refl; holds = c.open_single.ensures.holds } in
+    let B : Begun g _ _ _ = record { bounds = b; early = c.args.floor.in_bounds; many = refl; holds = c.open_single.ensures.holds } in
     opens g _ _ _ b (omega (arith, c.need.ensures, c.if-mem-need.false)) (both g _ _ _ _ c.open_single.ensures (c.widen.ensures g B))
