@@ -10,6 +10,7 @@ use Rattle.state.specs.Act.{Sought, nowhere, found, Seeking, seek}
 use Rattle.memory.specs.Holds.{Holds}
 use Rattle.memory.specs.Steps.{Pointed}
 use Rattle.seeking.specs.declared.Taken.{Taken}
+use Rattle.search.specs.declared.Foreseen.{Foreseen}
 use Rattle.seeking.specs.declared.Tried.{Tried}
 
 -- the starts from a line on
@@ -28,24 +29,21 @@ StartsOn i r h m o mem =
     ((s : State) → Holds mem s → starts_from s.settings.delays r h m i ≡ in_front o i (starts_from s.settings.delays r h m (suc i)))
     × IfSome o (λ b. b + h ≤ last_moment)
 
--- how far down what is noted for what is taken, and the first key beyond (0 where nothing is)
+-- how far down the way to what is taken is noted (0 where nothing is)
 abbrev pub noted_of : Option Taken → ℕ
 noted_of (Some t) = t.leaf.noted
 noted_of None = 0
 
-abbrev pub deep_of : Option Taken → ℕ
-deep_of (Some t) = t.ahead.deep
-deep_of None = 0
-
-abbrev pub after_of : Option Taken → ℕ
-after_of (Some t) = t.ahead.after
-after_of None = 0
+-- and what is noted ahead of it
+abbrev pub ahead_of : Option Taken → Foreseen
+ahead_of (Some t) = t.ahead
+ahead_of None = record { deep = 0; after = 0 }
 
 -- the code's struct for what the search over the starts came to; what is noted is told beside it
 abbrev pub taken_at : (x : Tried) → (count : ℕ) → Sought → Tried
 taken_at x n nowhere = record { taken = None; count = n }
 taken_at x n (found i r k e) =
-    record { taken = Some (record { line = i; start = r; leaf = record { key = k; end = e; noted = noted_of x.taken }; ahead = record { deep = deep_of x.taken; after = after_of x.taken } }); count = n }
+    record { taken = Some (record { line = i; start = r; leaf = record { key = k; end = e; noted = noted_of x.taken }; ahead = ahead_of x.taken }); count = n }
 
 abbrev pub taken_of : (x : Tried) → Seeking → Tried
 taken_of x y = taken_at x y.count y.out
