@@ -61,7 +61,7 @@ pub fn run(mem: &mut [u8], tally: Tally, records: &[u8], answers: &mut [u64]) ->
             return ended(t, Err(Ending::Unread), place, answered);
         };
         seven::write(answers, written, x.answer);
-        t = tally::raise(t, x.row);
+        t = tally::raise(t, x.row.into());
         place += x.used;
         answered += 1;
         written += 7;

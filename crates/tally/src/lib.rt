@@ -55,6 +55,15 @@ impl From<Refusal> for Row {
     }
 }
 
+// The place of a row among the counts.
+impl From<Row> for u64 {
+    ghost from_gives = { λ row n. n ≡ index_of row };
+
+    fn from(row: Row) -> u64 {
+        row as u64
+    }
+}
+
 // One more, and no more than the largest number.
 #[tactic(auto, unfolding(crate::specs::Counts::up))]
 fn up(n: u64) -> u64
@@ -63,23 +72,24 @@ fn up(n: u64) -> u64
     n.saturating_add(1)
 }
 
-// The tally with one row raised.
+// The tally with one row raised; no row has a number from 10 on.
 #[tactic(auto, unfolding(crate::specs::Counts::raised))]
-pub fn raise(t: Tally, row: Row) -> Tally
-    ensures { result ≡ raised t (index_of row) }
+pub fn raise(t: Tally, row: u64) -> Tally
+    ensures { result ≡ raised t row }
 {
     let mut u = t;
     match row {
-        Row::Bookings => u.bookings = up(t.bookings),
-        Row::Sweeps => u.sweeps = up(t.sweeps),
-        Row::Code3 => u.code3 = up(t.code3),
-        Row::Code4 => u.code4 = up(t.code4),
-        Row::Code5 => u.code5 = up(t.code5),
-        Row::Code6 => u.code6 = up(t.code6),
-        Row::Code7 => u.code7 = up(t.code7),
-        Row::Code8 => u.code8 = up(t.code8),
-        Row::Code9 => u.code9 = up(t.code9),
-        Row::Code10 => u.code10 = up(t.code10),
+        0 => u.bookings = up(t.bookings),
+        1 => u.sweeps = up(t.sweeps),
+        2 => u.code3 = up(t.code3),
+        3 => u.code4 = up(t.code4),
+        4 => u.code5 = up(t.code5),
+        5 => u.code6 = up(t.code6),
+        6 => u.code7 = up(t.code7),
+        7 => u.code8 = up(t.code8),
+        8 => u.code9 = up(t.code9),
+        9 => u.code10 = up(t.code10),
+        _ => {}
     }
     u
 }

@@ -21,7 +21,7 @@ pub loop-place-smaller : goal.loop-place-smaller
 loop-place-smaller c = omega (arith, c.loop-place-test.true, (more c.loop-place.invariant c.loop-place-test.true c.if-answers-written-lt7.false c.step.new.mem c.step.result c.step.ensures c.in-Ok.x c.in-Ok.is).0)
 
 pub loop-place-preserved : goal.loop-place-preserved
-loop-place-preserved c = rw (c.write.ensures, c.raise-t.ensures) (more c.loop-place.invariant c.loop-place-test.true c.if-answers-written-lt7.false c.step.new.mem c.step.result c.step.ensures c.in-Ok.x c.in-Ok.is).1
+loop-place-preserved c = rw (c.write.ensures, c.raise-t.ensures, c.into.ensures) (more c.loop-place.invariant c.loop-place-test.true c.if-answers-written-lt7.false c.step.new.mem c.step.result c.step.ensures c.in-Ok.x c.in-Ok.is).1
 
 pub returns : goal.returns
 returns c = runs_as _ c.args.records.now _ _ _ _ _ _ c.ended-2.ensures (run_done c.loop-place.invariant c.loop-place-test.false)
