@@ -2,7 +2,7 @@
 use mathlib.Core.Path.{◌≡◌, refl, sym, ap, ◌∙◌}
 use mathlib.Core.Bool.{Bool, true, false}
 use mathlib.Core.List.{List}
-use Rattle.std.specs.Prelude.{Result, Ok}
+use Rattle.std.specs.Prelude.{Result, Ok, Err}
 use Prim.Native.Nat.{ℕ, zero, suc, ◌+◌, ◌-◌, ◌≤◌}
 use native.Mathlib.Omega.{arith}
 use borrow.Author.Tests.{ne_eqb}
@@ -20,9 +20,9 @@ use Rattle.rule.specs.Answer.{Reply, booked, swept, refused, seven, numbers_of, 
 use Rattle.rule.specs.Codes.{booking_code, sweep_code, chosen_reply, too_many}
 use Rattle.tally.specs.Counts.{row_of, row_at, index_of, raised}
 use Rattle.order.specs.declared.Record.{Record}
-use Rattle.order.specs.declared.Record.TheVariants.{Booking, Sweep}
+use Rattle.order.specs.declared.Record.TheVariants.{Opening, Booking, Sweep}
 use Rattle.order.specs.declared.Unread.{Unread}
-use Rattle.order.specs.Records.{order, reading}
+use Rattle.order.specs.Records.{Reading, order, reading}
 use Rattle.order.specs.Kinds.{kind}
 use Rattle.order.specs.Read.{meant, Reads}
 use Rattle.shape.specs.Tree.{size}
@@ -32,11 +32,12 @@ use Rattle.state.specs.Sound.{Sound}
 use Rattle.state.specs.Range.{InRange}
 use Rattle.state.proofs.SoundLaws.{act_sound}
 use Rattle.memory.specs.Holds.{Holds, After}
+use Rattle.memory.proofs.Whole.{after_none}
 use Rattle.booking.specs.Book.{Books}
 use Rattle.sweeping.specs.Swept.{Sweeps}
 use Rattle.stepping.specs.declared.Single.{Single}
-use Rattle.stepping.specs.Step.{step_on}
-use Rattle.stepping.specs.Steps.{StepsOn, Steps}
+use Rattle.stepping.specs.Step.{step_on, unused}
+use Rattle.stepping.specs.Steps.{StepsOn, Idles, Steps}
 
 -- ---- the tally's row of an order's reply
 abbrev code_of : Reply → ℕ
@@ -106,3 +107,15 @@ module _ (bytes : List ℕ) (r : Result Record Unread) (n : Reads bytes r) where
       → ((s : State) → Sound s → Holds m s → Sweeps b.ticks (answer_of y) m m' s) → Told y u 1 x → Steps bytes (Ok x) m m'
   swept_steps b u q y x m m' f e s o h =
       ordered bytes x 1 (sweep b.ticks) (sym n.is ∙ ap (meant bytes) q ∙ ap (λ (z : ℕ). order z (sweep b.ticks)) (sym e.used)) (rw e.answer e.row) m m' s o b.in_bounds (sweep_row s b.ticks) (rw e.answer (f s o h).answer) (f s o h).after
+
+-- ---- no order
+idle_steps : (s : State) (t : Tally) (m : List ℕ) → Holds m s → (y : Reading) → step_on s t y ≡ unused s t 11 → Idles (step_on s t y) s t m m
+idle_steps s t m h y e = record { unused = e; after = after_none h }
+
+-- what is neither a booking nor a sweep: an opening, or nothing that can be read
+pub no_order : (bytes : List ℕ) (r : Result Record Unread) → Reads bytes r → ((a : Moment) (b l u : ℕ) → r ≡ Ok (Booking a b l u) → ⊥) → ((a : Moment) (u : ℕ) → r ≡ Ok (Sweep a u) → ⊥)
+    → (e : Unread) (m : List ℕ) → Steps bytes (Err e) m m
+no_order bytes (Ok (Opening c l p f u)) x n k e m s o h t = idle_steps s t m h (reading bytes) (rw (sym x.is) refl)
+no_order bytes (Ok (Booking a b l u)) x n k e m s o h t = absurd (n a b l u refl)
+no_order bytes (Ok (Sweep a u)) x n k e m s o h t = absurd (k a u refl)
+no_order bytes (Err i) x n k e m s o h t = idle_steps s t m h (reading bytes) (rw (sym x.is) refl)
