@@ -19,12 +19,12 @@ module _ (m : List ℕ) (t w : ℕ) (x y : Node) (ex : x ≡ node_at m w) (ey : 
   heights : (v : ℕ) → w ≡ 8 * v → (a b : Tree) → Two m t v a b → (x.height ≡ height a) × (y.height ≡ height b)
   heights v e a b f = (reads_height m (8 * v) x (rw e at ex) f.first, reads_height m (8 * v + 4) y (rw e at ey) f.second)
 
-  joins_left : y.height ≤ x.height → Hangs true t w m m1 → Joins t w m m1
+  pub joins_left : y.height ≤ x.height → Hangs true t w m m1 → Joins t w m m1
   joins_left h hangs v e a b f =
       let q : height b ≤ height a = omega (arith, heights v e a b f) in
       rw (join_left v a b q) (hangs v e a b f)
 
-  joins_right : x.height < y.height → Hangs false t w m m1 → Joins t w m m1
+  pub joins_right : x.height < y.height → Hangs false t w m m1 → Joins t w m m1
   joins_right h hangs v e a b f =
       let q : height a < height b = omega (arith, heights v e a b f) in
       rw (join_right v a b q) (hangs v e a b f)

@@ -146,7 +146,7 @@ module _ (m : List ℕ) (root r f : ℕ) (ws : List ℕ) (w : Way) (k : (t : Tre
     abbrev seat : ℕ
     seat = get_or ws w.mark 0 - 4
 
-    mark_within : Within m seat
+    pub mark_within : Within m seat
     mark_within = within M.beside.stands
 
     -- it is noted in the place of its sibling

@@ -26,6 +26,11 @@ pub says_map : (P Q : Type 0) (b : Bool) → (P → Q) → (Q → P) → Says P 
 says_map P Q true f g s = f s
 says_map P Q false f g s = λ q. s (g q)
 
+-- a test's own value says that it is true
+pub says_is : (b c : Bool) → c ≡ b → Says (b ≡ true) c
+says_is b true e = cc
+says_is b false e = λ q. let z : ◌≡◌ {A = ℕ} 0 1 = cc in omega arith
+
 -- a test of each number from a up to b, as `all` makes it
 pub says_range : (P : ℕ → Type 0) (a b : ℕ) (r : Bool) → MatchBool r (AllWithin P (range_with_len a (b - a)) 0 (length (range_with_len a (b - a)))) ((k : ℕ) × (k < length (range_with_len a (b - a))) × HoldsAt (λ j. P j → ⊥) (range_with_len a (b - a)) k)
     → Says ((j : ℕ) → a ≤ j → j < b → P j) r

@@ -4,8 +4,10 @@ use mathlib.Core.Bool.{Bool, true, false, false≢true}
 use mathlib.Core.List.{List}
 use Prim.Native.Nat.{ℕ, zero, suc, ◌+◌, ◌*◌, ◌-◌, ◌≤◌, ◌<◌}
 use native.Mathlib.Omega.{arith}
+use lib.Pow.{pow_mono}
 use lib.ListN.{length, get_or, replicate}
 use Rattle.numbers.specs.Words.{word}
+use Rattle.numbers.specs.Case.{case_le}
 use mathlib.Core.Logic.{◌⊎◌, inl, inr}
 use Rattle.rule.specs.Moments.{open_end}
 use Rattle.rule.specs.Key.{channel_of}
@@ -28,6 +30,13 @@ zeros zero d = refl
 zeros (suc n) zero = refl
 zeros (suc n) (suc d) = zeros n d
 
+-- the height allowed is small
+pub allowed_small : (k h : ℕ) → Allowed k h → k ≤ 4096 → h ≤ 24
+allowed_small k h a g = elim (case_le a.whole 12) [
+  | inl y ↦ omega (arith, a.twice)
+  | inr y ↦ let u : 13 ≤ a.whole = omega arith in absurd (omega (arith, pow_mono u, a.log.low))
+]
+
 -- what the limit is for: a tree below it keeps the height rule, and it refuses none that does
 pub record Limits (k h limit : ℕ) : Type 0 where
   pub allowed : Allowed k h
@@ -45,7 +54,7 @@ module _ (m : List ℕ) (r c f k h limit : ℕ) (e0 : r ≡ word m 0) (e1 : c �
     good = rw (e1, e4) (apart_good (word m 1) (word m 4) 0 most_key x t (omega arith) w.ordered w.balanced w.lawful w.apart (λ i e j. omega (arith, z (channel_of i))));
   }
 
-  no_tree : Surveyed m (r + 1) c f x y root_seat limit 0 (2 * k - 1) g None → Planted m → ⊥
+  pub no_tree : Surveyed m (r + 1) c f x y root_seat limit 0 (2 * k - 1) g None → Planted m → ⊥
   no_tree v w = v.no w.0 (taken w.0 w.1)
 
   module _ (s : ℕ) (v : Surveyed m (r + 1) c f x y root_seat limit 0 (2 * k - 1) g (Some s)) where
@@ -53,7 +62,7 @@ module _ (m : List ℕ) (r c f k h limit : ℕ) (e0 : r ≡ word m 0) (e1 : c �
     saw : (t : Tree) → Treed m t → v.yes.0 ≡ t
     saw t w = one_tree v.yes.1.stands w.stands
 
-    no_many : (g ≡ 0 → ⊥) → Planted m → ⊥
+    pub no_many : (g ≡ 0 → ⊥) → Planted m → ⊥
     no_many e w =
         let q : size v.yes.0 ≡ size w.0 = rw (saw w.0 w.1) in
         e (omega (arith, v.yes.2.left, w.1.many))

@@ -39,14 +39,14 @@ module _ (m : List ℕ) (n c f : ℕ) (x : List ℕ) (seat limit a b : ℕ) wher
     high h t w = omega (arith, ap height_of (seen t w), w.low)
 
     -- a leaf
-    not_leaf : (y : List ℕ) (q : Bool) → k.height ≡ 0 → Leaf c f a x y k q → q ≡ false → (t : Tree) → Taken m n c f x seat limit a b t → ⊥
+    pub not_leaf : (y : List ℕ) (q : Bool) → k.height ≡ 0 → Leaf c f a x y k q → q ≡ false → (t : Tree) → Taken m n c f x seat limit a b t → ⊥
     unfolding Good
     not_leaf y q z l e (leaf j g) w =
         let h = seen (leaf j g) w in
         says_no _ q l.says e (leaf_single k j g h, rw h w.good)
     not_leaf y q z l e (node i u v) w = omega (arith, ap height_of (seen (node i u v) w))
 
-    leaf_yes : (y : List ℕ) (q : Bool) → (b ≡ 0 → ⊥) → Within m seat → k.height < limit → Leaf c f a x y k q → q ≡ true
+    pub leaf_yes : (y : List ℕ) (q : Bool) → (b ≡ 0 → ⊥) → Within m seat → k.height < limit → Leaf c f a x y k q → q ≡ true
         → Surveyed m n c f x y seat limit a b (b - 1) (Some (k.lo + 1))
     unfolding Good Rep next run
     leaf_yes y q h u v l e =
@@ -126,7 +126,7 @@ module _ (m : List ℕ) (n c f : ℕ) (x : List ℕ) (seat limit a b : ℕ) wher
 
         -- and the survey has seen that one too, up to the key u
         module _ (z : List ℕ) (h u : ℕ) (right : Surveyed m n c f y z j k.height s g h (Some u)) (v w : Node) (ev : v ≡ node_at m i) (ew : w ≡ node_at m j) where
-          not_joined : (Joined k v w → ⊥) → Surveyed m n c f x z seat limit a b h None
+          pub not_joined : (Joined k v w → ⊥) → Surveyed m n c f x z seat limit a b h None
           unfolding Good
           not_joined not = nothing z h (omega (arith, left.work, right.work)) go
             where
@@ -147,7 +147,7 @@ module _ (m : List ℕ) (n c f : ℕ) (x : List ℕ) (seat limit a b : ℕ) wher
           pub lower : (v.height < k.height) × (w.height < k.height)
           lower = omega (arith, ap height_of left_at, ap height_of right_at, left.yes.1.low, right.yes.1.low)
 
-          node_yes : Seated n k.place → Within m seat → k.height < limit → Joined k v w → Surveyed m n c f x z seat limit a b h (Some u)
+          pub node_yes : Seated n k.place → Within m seat → k.height < limit → Joined k v w → Surveyed m n c f x z seat limit a b h (Some u)
           unfolding Good Rep next run
           node_yes inside wi low joined =
               let d = left.yes in

@@ -84,7 +84,7 @@ module _ (m : List ℕ) (k e r f : ℕ) (s : State) (S : Splitting s k e r f) (H
     pub is : drop was k ≡ split s k e r f
 
   module _ (y : kept s.floor (start_of k) r ≡ false) where
-    going_more : kept s.floor f e ≡ true → (n : ℕ) → Next n → (m1 : List ℕ) → Adds n e m m1 → Going m1
+    pub going_more : kept s.floor f e ≡ true → (n : ℕ) → Next n → (m1 : List ℕ) → Adds n e m m1 → Going m1
     unfolding split add drop
     going_more z n i m1 h =
         let A : After m m1 (add s K e) = rw (next_is n i) at (h s link) in
@@ -101,7 +101,7 @@ module _ (m : List ℕ) (k e r f : ℕ) (s : State) (S : Splitting s k e r f) (H
           is = rw (y, z);
         }
 
-    going_none : kept s.floor f e ≡ false → Going m
+    pub going_none : kept s.floor f e ≡ false → Going m
     unfolding split drop
     going_none z = record { was = s; after = after_none H; linked = link; two = S.room.another y z; same = refl; is = rw (y, z) }
 

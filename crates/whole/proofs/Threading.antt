@@ -21,13 +21,23 @@ use Rattle.memory.specs.Holds.{spare_mark, spare_node, Spares}
 use Rattle.settled.specs.Says.{Says}
 use Rattle.whole.specs.Parts.{Threads, Spared}
 
+-- ---- the two nodes of a place, word by word
+fields : (v : Node) → v ≡ record { height = v.height; lo = v.lo; top = v.top; low = v.low; place = v.place }
+fields v = refl
+
+pub spare_is : (v : Node) (k : ℕ) → v.height ≡ spare_mark → v.low ≡ k → v.lo ≡ 0 → v.top ≡ 0 → v ≡ spare_node k v.place
+spare_is v k h l a b = fields v ∙ (rw (h, l, a, b))
+
+pub blank_is : (v : Node) → v.height ≡ 0 → v.lo ≡ 0 → v.top ≡ 0 → v.low ≡ 0 → v.place ≡ 0 → v ≡ leaf_node 0 0
+blank_is v h a b c d = fields v ∙ (rw (h, a, b, c, d))
+
 -- ---- a place at a time
-none_is : (m : List ℕ) (n k at : ℕ) → k ≤ 0 → Threads m n k at → at ≡ 0
+pub none_is : (m : List ℕ) (n k at : ℕ) → k ≤ 0 → Threads m n k at → at ≡ 0
 unfolding Threads
 none_is m n zero at h s = s
 none_is m n (suc k) at h s = absurd (omega arith)
 
-is_none : (m : List ℕ) (n k at : ℕ) → k ≤ 0 → at ≡ 0 → Threads m n k at
+pub is_none : (m : List ℕ) (n k at : ℕ) → k ≤ 0 → at ≡ 0 → Threads m n k at
 unfolding Threads
 is_none m n zero at h e = e
 is_none m n (suc k) at h e = absurd (omega arith)
