@@ -1,1 +1,3 @@
+pub mod Spelt
 pub mod Twenty
+pub mod Writing

@@ -1,5 +1,6 @@
 -- The lines of a session (01, A session in full): which line says an answer, and the text of each.
-use Rattle.std.specs.Prelude.{List, ℕ, ◌++◌, ◌==◌, if◌then◌else◌, codes, decimal}
+use Rattle.std.specs.Prelude.{List, [], ◌∷◌, ℕ, Option, ◌++◌, ◌==◌, ◌≤◌, if◌then◌else◌, length, codes, decimal}
+use Rattle.std.specs.Io.KnownBytes.{Appends}
 use Rattle.rule.specs.declared.answer.Answer.{Answer}
 use Rattle.lines.specs.declared.Line.{Line}
 use Rattle.lines.specs.declared.Line.TheVariants.{Opening, Booking, Sweep, Refusal, Kept}
@@ -19,3 +20,11 @@ text_of (Booking n c l s f) = decimal n ++ codes " B " ++ decimal c ++ codes " "
 text_of (Sweep n d) = decimal n ++ codes " S " ++ decimal d
 text_of (Refusal n x) = decimal n ++ codes " R " ++ decimal x
 text_of (Kept v) = codes "E " ++ decimal v
+
+-- a line as it is written: its text, and a newline
+abbrev pub written : Line → List ℕ
+written l = text_of l ++ (10 ∷ [])
+
+-- known bytes grow, by so many at most
+abbrev pub Writes : (most : ℕ) → Option (List ℕ) → Option (List ℕ) → Type 0
+Writes most old new = (bs : List ℕ) × (length bs ≤ most) × Appends old new bs

@@ -2,19 +2,25 @@
 // lines as crate `session` does from the bytes.
 #![tactic(auto)]
 
+ghost use Rattle.std.specs.Prelude.{OnOk};
 ghost use Rattle.memory.specs.Holds.{Whole};
+ghost use Rattle.lines.specs.Lines.{Writes};
 ghost use Rattle.link_session.specs.Orders.{InBounds};
 
 use lines::Line;
+use lines::output::Output;
 use rule::answer::Answer;
 use rule::moments::Moment;
 use ruling::bounds::Settings;
-use std::io;
+use std::io::{Result, Write};
 
 const ROOM: u64 = 256;
 
 // The bytes that a link with that room needs.
 const NEED: usize = node::HEADER_BYTES + node::NODE_BYTES * (2 * ROOM as usize + 1);
+
+// Room for the whole text, so that it is written in one go.
+const LONGEST_TEXT: usize = 2048;
 
 // An order on the link, with what its record would say of it.
 #[derive(Clone, Copy)]
@@ -92,17 +98,21 @@ fn answer(mem: &mut [u8], order: Order) -> Answer
 }
 
 // The ten orders, and a line for each.
-fn play(rt: &impl Print, mem: &mut [u8]) -> io::Result<()>
+fn play<W: Write>(out: &mut W, mem: &mut [u8]) -> Result<()>
     requires { Whole mem.old }
+    ensures { OnOk result (Writes 1280 (W.contents out.old) (W.contents out.new)) }
 {
-    for (n, order) in (1..).zip(ORDERS) {
-        println!(rt; "{}", Line::answer(n, answer(mem, order)))?;
+    for i in 0..ORDERS.len() {
+        let answer = answer(mem, ORDERS[i]);
+        Line::answer(i as u64 + 1, answer).write(out)?;
     }
     Ok(())
 }
 
 // The opening: 2 channels, leap 1000, floor 0, one line of 5, room 256. Then the orders, and the voids kept.
-fn session(rt: &impl Print, mem: &mut [u8]) -> io::Result<()> {
+fn session<W: Write>(out: &mut W, mem: &mut [u8]) -> Result<()>
+    ensures { OnOk result (Writes 2048 (W.contents out.old) (W.contents out.new)) }
+{
     let settings = Settings {
         room: ROOM,
         channels: 2,
@@ -111,21 +121,21 @@ fn session(rt: &impl Print, mem: &mut [u8]) -> io::Result<()> {
     };
     if let Err(why) = opening::open(mem, &settings, Moment { ticks: 0 }) {
         let code = why.into();
-        return println!(rt; "{}", Line::Refusal { n: 0, code });
+        return Line::Refusal { n: 0, code }.write(out);
     }
-    println!(rt;
-        "{}",
-        Line::Opening {
-            channels: 2,
-            lines: 1
-        }
-    )?;
-    play(rt, mem)?;
+    let opened = Line::Opening {
+        channels: 2,
+        lines: 1,
+    };
+    opened.write(out)?;
+    play(out, mem)?;
     let voids = calls::tell::tell(mem).voids;
-    println!(rt; "{}", Line::Kept { voids })
+    Line::Kept { voids }.write(out)
 }
 
-fn main(rt: HostRuntime) -> io::Result<()> {
+fn main() {
     let mut mem = [0u8; NEED];
-    session(&rt, &mut mem)
+    let mut out = Output::<LONGEST_TEXT>::new();
+    let _ = session(&mut out, &mut mem);
+    let _ = out.flush();
 }

@@ -1,8 +1,7 @@
+use Prim.Native.Nat.{◌*◌}
 use Rattle.memory.specs.Holds.{Whole}
+use Rattle.lines.specs.Lines.{Writes}
 use Rattle.link_session.proofs.play.Given as goal
 
-abbrev pub invariant-loop-n : goal.invariant-loop-n
-invariant-loop-n g l =
-    (goal.iterator-loop-n g).can_next l.n-iterator ×
-    (goal.iterator-loop-n g).is_finite l.n-iterator ×
-    Whole l.mem
+abbrev pub invariant-loop-i : goal.invariant-loop-i
+invariant-loop-i g l = Whole l.mem × Writes (128 * l.i) (g.W.Write.contents l.initial.out) (g.W.Write.contents l.out)
