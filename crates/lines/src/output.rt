@@ -57,10 +57,12 @@ impl<const TEXT: usize> Output<TEXT> {
 }
 
 impl<const TEXT: usize> Write for Output<TEXT> {
-    // The bytes taken wait behind those before, or those were written out.
+    // It never fails, and takes a line whole. The bytes taken wait behind those before, or those were written out.
     fn write(&mut self, buf: &[u8]) -> Result<usize>
         ensures bound { WritesAtMost result buf.now }
         ensures bytes { WriteAppends None None result buf.now }
+        ensures ok { IsOk result }
+        ensures whole { 128 ≤ TEXT → length buf.now ≤ 128 → IfOk result (λ n. n ≡ length buf.now) }
         ensures waits { IfOk result (λ n. (take self.new.len self.new.text ≡ take self.old.len self.old.text ++ take n buf.now) ⊎ (take self.new.len self.new.text ≡ take n buf.now)) }
     {
         self.ready();

@@ -1,4 +1,4 @@
--- What the program writes (01, A session in full), whatever it reads.
+-- What the program writes (01, A session in full), whatever it reads: of a writer that tells its bytes.
 use Rattle.std.specs.Prelude.{◌≡◌, ◌≢◌, List, [], Option, ◌++◌, ℕ, zero, suc, ◌*◌, ◌==◌, if◌then◌else◌, length, get_or, take, drop}
 use Rattle.std.specs.Io.KnownBytes.{Appends}
 use Rattle.digits.specs.Digits.{field}

@@ -1,5 +1,6 @@
 // The program (01, A session in full): reads at most 32,768 bytes from standard input, an OL first, with room 256, and
-// prints what each record is answered. What is written is proved (specs/Printed.antt); an output that fails loses it, and no more.
+// prints what each record is answered. What `serve` writes is proved, of any writer that tells its bytes (specs/Printed.antt); an output
+// that fails loses it, and no more.
 #![tactic(auto)]
 
 ghost use Rattle.std.specs.Prelude.{◌*◌, ◌≤◌, OnOk, length};
