@@ -10,7 +10,7 @@ ghost use Rattle.stepping.specs.Steps.{Steps};
 
 use order::{Record, Unread};
 use rule::answer::{Answer, Refused};
-use tally::Row;
+use tally::rows::Row;
 
 // What one order gives: the seven numbers, the bytes used, and the row of the tally that it raises.
 #[derive(Clone, Copy)]

@@ -4,8 +4,8 @@ use Rattle.numbers.specs.Case.{pick}
 use Rattle.rule.specs.Order.{Order, booking, sweep}
 use Rattle.rule.specs.Answer.{Reply, booked, swept, refused}
 use Rattle.tally.specs.declared.Tally.{Tally}
-use Rattle.tally.specs.declared.Row.{Row}
-use Rattle.tally.specs.declared.Row.TheVariants.{Bookings, Sweeps, Code3, Code4, Code5, Code6, Code7, Code8, Code9, Code10}
+use Rattle.tally.specs.declared.rows.Row.{Row}
+use Rattle.tally.specs.declared.rows.Row.TheVariants.{Bookings, Sweeps, Code3, Code4, Code5, Code6, Code7, Code8, Code9, Code10}
 
 -- "one count for bookings, one for sweeps, one for each of codes 3 to 10", in this order
 abbrev pub rows : ℕ

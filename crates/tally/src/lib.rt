@@ -1,11 +1,10 @@
-// The tally by value, its rows, the row of each refusal, and the raising of one of its counts (specs/Counts.antt).
+// The tally by value, the row of an answer's code, and the raising of one of its counts (specs/Counts.antt).
 #![tactic(auto)]
 
-ghost use Rattle.std.specs.Prelude.{◌≡◌, ◌-◌};
-ghost use Rattle.rule.specs.Refusal.{number_of};
-ghost use Rattle.tally.specs.Counts.{index_of, up, raised};
+ghost use Rattle.std.specs.Prelude.{◌≡◌};
+ghost use Rattle.tally.specs.Counts.{row_at, up, raised};
 
-use rule::refusal::Refusal;
+pub mod rows;
 
 #[repr(C)]
 #[derive(Clone, Copy, Default)]
@@ -22,46 +21,11 @@ pub struct Tally {
     pub code10: u64,
 }
 
-// The counts of a tally, in their order.
-#[derive(Clone, Copy, PartialEq, Eq)]
-pub enum Row {
-    Bookings,
-    Sweeps,
-    Code3,
-    Code4,
-    Code5,
-    Code6,
-    Code7,
-    Code8,
-    Code9,
-    Code10,
-}
-
-// "one for each of codes 3 to 10"
-impl From<Refusal> for Row {
-    ghost from_gives = { λ why row. index_of row ≡ number_of why - 1 };
-
-    fn from(why: Refusal) -> Row {
-        match why {
-            Refusal::NoLength => Row::Code3,
-            Refusal::BeforeFloor => Row::Code4,
-            Refusal::LineLacked => Row::Code5,
-            Refusal::PastLastMoment => Row::Code6,
-            Refusal::NothingFits => Row::Code7,
-            Refusal::RoomFull => Row::Code8,
-            Refusal::SweepBeforeFloor => Row::Code9,
-            Refusal::PastLeap => Row::Code10,
-        }
-    }
-}
-
-// The place of a row among the counts.
-impl From<Row> for u64 {
-    ghost from_gives = { λ row n. n ≡ index_of row };
-
-    fn from(row: Row) -> u64 {
-        row as u64
-    }
+// The tally's row of an answer, by numbers: that of what is accepted, or that of its code.
+pub fn row(code: u64, accepted: u64) -> u64
+    ensures { result ≡ row_at code accepted }
+{
+    if code == 0 { accepted } else { code - 1 }
 }
 
 // One more, and no more than the largest number.
