@@ -68,8 +68,8 @@ impl Line {
         }
     }
 
-    // The line and a newline, as the end of a text; where they begin there.
-    fn spell(self, text: &mut [u8]) -> usize
+    // The line and a newline, as the end of a text; where they begin there. It cannot fail, whatever takes the text then.
+    pub fn spell(self, text: &mut [u8]) -> usize
         requires { length text.old ≡ 128 }
         ensures { (result ≤ 128) × (drop result text.new ≡ written self) }
     {
