@@ -6,12 +6,10 @@ use Prim.Native.Nat.{ℕ, ◌+◌, ◌<◌, ◌≤◌, min, max}
 use native.Mathlib.Omega.{arith}
 use Rattle.node.specs.declared.Node.{Node}
 use Rattle.node.specs.Layout.{leaf_node, over_node}
+use Rattle.node.proofs.Nodes.{fields}
 use Rattle.settled.specs.Says.{Says}
 use Rattle.settled.proofs.Saying.{says_yes, says_map}
 use Rattle.inspect.specs.Inspect.{Single, Near, Joined, Leaf}
-
-fields : (k : Node) → k ≡ record { height = k.height; lo = k.lo; top = k.top; low = k.low; place = k.place }
-fields k = refl
 
 -- ---- a leaf's node, word by word
 pub record LeafWords (k : Node) : Type 0 where

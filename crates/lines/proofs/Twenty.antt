@@ -1,4 +1,4 @@
--- A number below 2^64 has at most twenty digits. Assumes nothing.
+-- A number below 2^64 has at most twenty digits, by the kit's count of digits (docs/PORT.md); of its `decimal` see Spelt. Assumes nothing.
 use mathlib.Core.Path.{◌≡◌, subst}
 use mathlib.Core.Logic.{inl, inr}
 use Prim.Native.Nat.{ℕ, zero, suc, ◌+◌, ◌-◌, ◌^◌, ◌≤◌, ◌<◌}

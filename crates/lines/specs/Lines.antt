@@ -21,6 +21,10 @@ text_of (Sweep n d) = decimal n ++ codes " S " ++ decimal d
 text_of (Refusal n x) = decimal n ++ codes " R " ++ decimal x
 text_of (Kept v) = codes "E " ++ decimal v
 
+-- a line takes at most so many bytes, its newline among them
+abbrev pub longest_line : ℕ
+longest_line = 128
+
 -- a line as it is written: its text, and a newline
 abbrev pub written : Line → List ℕ
 written l = text_of l ++ (10 ∷ [])

@@ -5,11 +5,14 @@ pub mod output;
 
 ghost use Rattle.std.specs.Prelude.{◌≡◌, ◌+◌, ◌≤◌, ◌++◌, ◌∷◌, [], Some, OnOk, length, drop, decimal};
 ghost use Rattle.std.specs.Io.KnownBytes.{Appends};
-ghost use Rattle.lines.specs.Lines.{line_of, text_of, written, Writes};
+ghost use Rattle.lines.specs.Lines.{line_of, text_of, longest_line, written, Writes};
 
 use rule::answer::Answer;
 use std::fmt;
 use std::io::{self, Write};
+
+// A line takes at most so many bytes, its newline among them.
+pub const LONGEST_LINE: usize = 128;
 
 // A line, by its letter: L, B, S, R or E. What is answered to a record has the record's number n.
 #[derive(Clone, Copy)]
@@ -70,10 +73,10 @@ impl Line {
 
     // The line and a newline, as the end of a text; where they begin there. It cannot fail, whatever takes the text then.
     pub fn spell(self, text: &mut [u8]) -> usize
-        requires { length text.old ≡ 128 }
-        ensures { (result ≤ 128) × (drop result text.new ≡ written self) }
+        requires { length text.old ≡ longest_line }
+        ensures { (result ≤ longest_line) × (drop result text.new ≡ written self) }
     {
-        let end = byte(text, 128, b'\n');
+        let end = byte(text, LONGEST_LINE, b'\n');
         match self {
             Line::Opening { channels, lines } => {
                 let b = number(text, end, lines);
@@ -108,12 +111,12 @@ impl Line {
         }
     }
 
-    // Writes the line and a newline, at most 128 bytes: in one piece, which costs a third of `Display`'s pieces (docs/DESIGN-PASS.md).
+    // Writes the line and a newline: in one piece, which costs a third of `Display`'s pieces (docs/DESIGN-PASS.md).
     pub fn write<W: Write>(self, out: &mut W) -> io::Result<()>
         ensures text { OnOk result (Appends (W.contents out.old) (W.contents out.new) (written self)) }
-        ensures short { OnOk result (Writes 128 (W.contents out.old) (W.contents out.new)) }
+        ensures short { OnOk result (Writes longest_line (W.contents out.old) (W.contents out.new)) }
     {
-        let mut text = [0u8; 128];
+        let mut text = [0u8; LONGEST_LINE];
         let at = self.spell(&mut text);
         out.write_all(&text[at..])
     }

@@ -1,13 +1,12 @@
 // Where a session's lines go: they wait in a text, which is written to standard output where it may not take a line more, and at
 // the end. No heap, and what cannot be written is lost.
-ghost use Rattle.std.specs.Prelude.{◌≡◌, ◌+◌, ◌≤◌, ◌++◌, ◌⊎◌, None, IfOk, IsOk, length, take};
+ghost use Rattle.std.specs.Prelude.{◌≡◌, ◌+◌, ◌-◌, ◌≤◌, ◌++◌, [], None, IfOk, IsOk, length, take, min};
 ghost use Rattle.std.specs.Io.{WritesAtMost};
 ghost use Rattle.std.specs.Io.KnownBytes.{Keeps, WriteAppends};
+ghost use Rattle.lines.specs.Lines.{longest_line};
 
+use crate::LONGEST_LINE;
 use std::io::{Result, Write};
-
-// The longest line, with its newline.
-const LINE: usize = 128;
 
 #[derive(Drop)]
 pub struct Output<const TEXT: usize> {
@@ -17,8 +16,10 @@ pub struct Output<const TEXT: usize> {
 }
 
 impl<const TEXT: usize> Output<TEXT> {
+    ghost use Rattle.lines.specs.Waiting.{waiting, waits_on};
+
     pub fn new() -> Output<TEXT>
-        ensures { result.len ≡ 0 }
+        ensures { waiting result ≡ [] }
     {
         Output {
             text: [0; TEXT],
@@ -36,10 +37,11 @@ impl<const TEXT: usize> Output<TEXT> {
 
     // Room for a line.
     fn ready(&mut self)
-        ensures room { 128 ≤ TEXT → self.new.len + 128 ≤ TEXT }
-        ensures waits { (self.new.len ≡ 0) ⊎ (self.new ≡ self.old) }
+        ensures room { longest_line ≤ TEXT → self.new.len + longest_line ≤ TEXT }
+        ensures waits { waiting self.new ≡ waits_on self.old }
+        ensures held { length (waiting self.new) ≡ self.new.len }
     {
-        if TEXT - self.len < LINE {
+        if TEXT - self.len < LONGEST_LINE {
             self.spill();
         }
     }
@@ -47,7 +49,7 @@ impl<const TEXT: usize> Output<TEXT> {
     // The bytes wait behind those before.
     fn keep(&mut self, bytes: &[u8])
         requires { self.old.len + length bytes.now ≤ TEXT }
-        ensures { take self.new.len self.new.text ≡ take self.old.len self.old.text ++ bytes.now }
+        ensures { waiting self.new ≡ waiting self.old ++ bytes.now }
     {
         let end = self.len + bytes.len();
         let text = &mut self.text[..];
@@ -57,13 +59,17 @@ impl<const TEXT: usize> Output<TEXT> {
 }
 
 impl<const TEXT: usize> Write for Output<TEXT> {
-    // It never fails, and takes a line whole. The bytes taken wait behind those before, or those were written out.
+    ghost use Rattle.lines.specs.Waiting.{waiting, waits_on};
+
+    // It never fails, and takes a line whole, and so much else as there is room for. What is taken waits behind what waited, or
+    // that was written out.
     fn write(&mut self, buf: &[u8]) -> Result<usize>
         ensures bound { WritesAtMost result buf.now }
         ensures bytes { WriteAppends None None result buf.now }
         ensures ok { IsOk result }
-        ensures whole { 128 ≤ TEXT → length buf.now ≤ 128 → IfOk result (λ n. n ≡ length buf.now) }
-        ensures waits { IfOk result (λ n. (take self.new.len self.new.text ≡ take self.old.len self.old.text ++ take n buf.now) ⊎ (take self.new.len self.new.text ≡ take n buf.now)) }
+        ensures took { IfOk result (λ n. n ≡ min (length buf.now) (TEXT - length (waits_on self.old))) }
+        ensures whole { longest_line ≤ TEXT → length buf.now ≤ longest_line → IfOk result (λ n. n ≡ length buf.now) }
+        ensures waits { IfOk result (λ n. waiting self.new ≡ waits_on self.old ++ take n buf.now) }
     {
         self.ready();
         let n = buf.len().min(TEXT - self.len);
@@ -74,7 +80,7 @@ impl<const TEXT: usize> Write for Output<TEXT> {
     fn flush(&mut self) -> Result<()>
         ensures bytes { Keeps None None }
         ensures ok { IsOk result }
-        ensures waits { self.new.len ≡ 0 }
+        ensures waits { waiting self.new ≡ [] }
     {
         self.spill();
         Ok(())

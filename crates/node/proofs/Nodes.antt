@@ -1,4 +1,4 @@
--- The laws of a node saved: it is there, and nothing else has changed.
+-- The laws of a node saved: it is there, and nothing else has changed. A node is its five words.
 -- And what makes a node over two others fit its words.
 use mathlib.Core.Path.{◌≡◌, refl, ap, ◌∙◌}
 use mathlib.Core.Logic.{◌⊎◌, inl, inr, ◌≢◌}
@@ -13,6 +13,9 @@ use Rattle.shape.specs.Tree.{same}
 use Rattle.node.specs.declared.Node.{Node}
 use Rattle.node.specs.Layout.{half_word, base, Within, Fits, node_at, sums_saved, saved, links_of, over_node, with_sums, seat_of, Saved, Copied, Over}
 use Rattle.shape.specs.PlaceLaws.{same_none}
+
+pub fields : (k : Node) → k ≡ record { height = k.height; lo = k.lo; top = k.top; low = k.low; place = k.place }
+fields k = refl
 
 -- a node's fields are words
 pub record Words (n : Node) : Type 0 where

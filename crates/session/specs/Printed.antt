@@ -14,8 +14,8 @@ use Rattle.lines.specs.Lines.{line_of, written}
 use Rattle.lines.specs.declared.Line.TheVariants.{Opening, Refusal, Kept}
 
 -- the answer whose seven numbers these are
-abbrev pub heard : List ℕ → Answer
-heard xs = record {
+abbrev pub answer_from : List ℕ → Answer
+answer_from xs = record {
   code = get_or xs 0 0;
   channel = get_or xs 1 0;
   line = get_or xs 2 0;
@@ -28,20 +28,25 @@ heard xs = record {
 -- the lines of the first answers of a run, which are numbered from 1
 abbrev pub answers_written : List ℕ → (count : ℕ) → List ℕ
 answers_written numbers zero = []
-answers_written numbers (suc i) = answers_written numbers i ++ written (line_of (suc i) (heard (take 7 (drop (7 * i) numbers))))
+answers_written numbers (suc i) = answers_written numbers i ++ written (line_of (suc i) (answer_from (take 7 (drop (7 * i) numbers))))
+
+-- so many answers have room: the least record has eight bytes, and at most 32,768 are read
+abbrev pub most_answers : ℕ
+most_answers = 4096
 
 -- "A run ended by 11 prints `n R 11`"
 abbrev pub ending_written : (code answered : ℕ) → List ℕ
 ending_written code n = if code == 0 then [] else written (Refusal (suc n) code)
 
--- a run of the records, with room for every answer, and what is written of it: "then for order n ..; last `E` and the voids kept"
+-- a run of the records, with room for every answer, and what is written of it: "then for order n ..; last `E` and the voids kept".
+-- No line tells the tally, so it may begin with any.
 pub record Plays (records m m' : List ℕ) (old new : Option (List ℕ)) : Type 0 where
   pub tally : Tally
   pub done : RunDone
   pub before : List ℕ
   pub numbers : List ℕ
   pub told : Told
-  pub room : length before ≡ 28672
+  pub room : length before ≡ 7 * most_answers
   pub runs : Runs tally records done m m' before numbers
   pub tells : Tells told m'
   pub writes : Appends old new ((answers_written numbers done.ran.answered ++ ending_written done.ran.code done.ran.answered) ++ written (Kept told.voids))

@@ -5,7 +5,7 @@
 
 ghost use Rattle.std.specs.Prelude.{◌*◌, ◌≤◌, OnOk, length};
 ghost use Rattle.std.specs.Io.KnownBytes.{Appends};
-ghost use Rattle.session.specs.Printed.{answers_written, ending_written, Plays, Serves};
+ghost use Rattle.session.specs.Printed.{answers_written, ending_written, most_answers, Plays, Serves};
 
 use lines::Line;
 use lines::output::Output;
@@ -41,7 +41,7 @@ fn answers<W: Write>(out: &mut W, numbers: &[u64], count: usize) -> Result<()>
 
 // The line of what ended a run, where it is not the end of the records.
 fn ending<W: Write>(out: &mut W, ran: Ran) -> Result<()>
-    requires { ran.answered ≤ 4096 }
+    requires { ran.answered ≤ most_answers }
     ensures { OnOk result (Appends (W.contents out.old) (W.contents out.new) (ending_written ran.code ran.answered)) }
 {
     if ran.code == 0 {

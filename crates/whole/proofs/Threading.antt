@@ -15,6 +15,7 @@ use Rattle.shape.specs.PlaceLaws.{same_self, same_is, same_most}
 use Rattle.node.specs.declared.Node.{Node}
 use Rattle.node.specs.Layout.{node_at, leaf_node}
 use Rattle.node.proofs.Reps.{height_of}
+use Rattle.node.proofs.Nodes.{fields}
 use Rattle.state.specs.State.{first}
 use Rattle.state.specs.Sound.{among}
 use Rattle.memory.specs.Holds.{spare_mark, spare_node, Spares}
@@ -22,9 +23,6 @@ use Rattle.settled.specs.Says.{Says}
 use Rattle.whole.specs.Parts.{Threads, Spared}
 
 -- ---- the two nodes of a place, word by word
-fields : (v : Node) → v ≡ record { height = v.height; lo = v.lo; top = v.top; low = v.low; place = v.place }
-fields v = refl
-
 pub spare_is : (v : Node) (k : ℕ) → v.height ≡ spare_mark → v.low ≡ k → v.lo ≡ 0 → v.top ≡ 0 → v ≡ spare_node k v.place
 spare_is v k h l a b = fields v ∙ (rw (h, l, a, b))
 
